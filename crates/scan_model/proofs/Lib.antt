@@ -1,0 +1,8 @@
+pub mod Computing
+pub mod WorkedTexts
+pub mod BlankLemmas
+pub mod LineLemmas
+pub mod LongestLemmas
+pub mod QuotedLemmas
+pub mod NameLemmas
+pub mod RestLemmas

@@ -1,0 +1,9 @@
+pub mod Spliced
+pub mod Spelling
+pub mod Tokens
+pub mod Lines
+pub mod TokenTests
+pub mod ModuleLines
+pub mod Stream
+pub mod Paths
+pub mod Files

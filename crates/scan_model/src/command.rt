@@ -1,0 +1,67 @@
+use crate::{Items, PathText, Text};
+
+/// The two forms of a header's name ([cpp.include]).
+#[derive(Clone, Copy, Debug, PartialEq, Eq)]
+pub enum Form {
+    Quoted,
+    Angled,
+}
+
+/// The folders of a command in which headers are looked for.
+#[derive(Drop)]
+pub struct SearchList {
+    /// `-iquote`
+    pub quote: Items<PathText>,
+    /// `-I`
+    pub angled: Items<PathText>,
+    /// `-isystem`
+    pub system: Items<PathText>,
+    /// `-idirafter`
+    pub after: Items<PathText>,
+}
+
+/// A macro that a command defines, `-D`, or takes away, `-U`: what follows `#define ` or `#undef `.
+#[derive(Drop)]
+pub enum Setting {
+    Define(Text),
+    Undef(Text),
+}
+
+/// What one entry of the database asks the compiler to do, as far as a scan needs it.
+#[derive(Drop)]
+pub struct Command {
+    pub directory: PathText,
+    pub main: PathText,
+    /// The main path, as the record prints it.
+    pub source: Text,
+    /// The path of what the command makes.
+    pub output: Text,
+    /// `-D` and `-U`, in order.
+    pub settings: Items<Setting>,
+    /// The names of `-include`, in order.
+    pub forced: Items<Text>,
+    pub search: SearchList,
+}
+
+/// What the program's own words say of every command.
+#[derive(Drop)]
+pub struct Settings {
+    /// The file of the compiler's own macros.
+    pub predefines: Option<PathText>,
+    /// The folders of the program, which stand between `-isystem` and `-idirafter`.
+    pub program: Items<PathText>,
+}
+
+/// Why a command isn't scanned at all.
+#[derive(Clone, Copy, Debug, PartialEq, Eq)]
+pub enum CommandFault {
+    UnsupportedOption,
+    BadCommand,
+}
+
+/// A command to scan, or one that is refused.
+#[derive(Drop)]
+pub enum Job {
+    Run(Command),
+    Refused(CommandFault),
+}

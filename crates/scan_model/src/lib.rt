@@ -1,0 +1,30 @@
+//! The plain data of the scanner, and the definitions that every contract speaks of.
+//!
+//! The types here hold what the other crates hand to one another. `specs/` says what the language's phases 1 to 4
+//! and its module lines mean, over plain lists and numbers; no code is a definition, and no definition is code.
+#![tactic(auto)]
+
+mod bytes;
+mod command;
+mod items;
+mod memory;
+mod module_line;
+mod outcome;
+mod path_text;
+mod text;
+mod token;
+mod unit_end;
+
+pub use bytes::Bytes;
+pub use command::{Command, CommandFault, Form, Job, SearchList, Setting, Settings};
+pub use items::Items;
+pub use memory::NoMemory;
+pub use module_line::{Keyword, ModuleFault};
+pub use outcome::Outcome;
+pub use path_text::PathText;
+pub use text::Text;
+pub use token::{Kind, Line, Tok};
+pub use unit_end::{Fault, FaultKind, Place, Provided, Record, UnitEnd};
+
+#[cfg(test)]
+mod tests;
