@@ -7,3 +7,4 @@ pub mod ModuleLines
 pub mod Stream
 pub mod Paths
 pub mod Files
+pub mod Answer
