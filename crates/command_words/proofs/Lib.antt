@@ -1,0 +1,2 @@
+pub mod LastSeparator
+pub mod Utf8Paths

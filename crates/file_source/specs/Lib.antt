@@ -1,0 +1,4 @@
+pub mod CameOf
+pub mod Givens
+pub mod Scripts
+pub mod Sinks

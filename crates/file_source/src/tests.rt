@@ -1,0 +1,126 @@
+ghost use Rattle.scan_model.specs.Paths.{IsNormal};
+
+use crate::{
+    DiskSource, MemorySink, MemorySource, OutSink, Scripted, ScriptedOutcome, Sink, Source,
+};
+use scan_model::{Bytes, Items, Outcome, PathText};
+use std::alloc::Global;
+use std::test::Fail;
+use std::{fs, io};
+
+fn path(alloc: Global, name: &[u8]) -> Result<PathText, Fail>
+    requires { IsNormal name.now }
+{
+    Ok(PathText::of_normal(Bytes::copy(alloc, name)?))
+}
+
+#[tactic(auto, unfolding(scan_model::specs::Paths::normal))]
+fn path_w(alloc: Global) -> Result<PathText, Fail> {
+    path(alloc, b"w")
+}
+
+#[tactic(auto, unfolding(scan_model::specs::Paths::normal))]
+fn path_m(alloc: Global) -> Result<PathText, Fail> {
+    path(alloc, b"m")
+}
+
+#[tactic(auto, unfolding(scan_model::specs::Paths::normal))]
+fn path_here(alloc: Global) -> Result<PathText, Fail> {
+    path(alloc, b".")
+}
+
+// A script for the path `w` alone.
+fn script(alloc: Global) -> Result<Items<Scripted>, Fail> {
+    let mut outcomes = Vec::new(alloc);
+    outcomes.push(ScriptedOutcome::Bytes(Bytes::copy(alloc, b"text")?))?;
+    outcomes.push(ScriptedOutcome::Failed)?;
+    outcomes.push(ScriptedOutcome::Absent)?;
+    let mut files = Vec::new(alloc);
+    files.push(Scripted {
+        path: path_w(alloc)?,
+        outcomes: Items::of_vec(outcomes),
+    })?;
+    Ok(Items::of_vec(files))
+}
+
+// Whether a source gives this for a path.
+fn gives<S: Source>(
+    alloc: Global,
+    source: &mut S,
+    path: &PathText,
+    outcome: Outcome,
+    bytes: &[u8],
+) -> Result<bool, Fail> {
+    let given = S::read(alloc, source.ask(alloc, path)?);
+    Ok(S::outcome(&given) == outcome && S::bytes(&given) == bytes)
+}
+
+#[test]
+fn memory_source_follows_its_script(rt: HostRuntime) -> Result<(), Fail> {
+    let alloc = rt.alloc();
+    let mut source = MemorySource::new(alloc, script(alloc)?)?;
+    let w = path_w(alloc)?;
+    assert!(rt; gives(alloc, &mut source, &w, Outcome::Present, b"text")?);
+    assert!(rt; gives(alloc, &mut source, &w, Outcome::Failed, b"")?);
+    Ok(())
+}
+
+#[test]
+fn memory_sink_fails_as_it_is_told(rt: HostRuntime) -> Result<(), Fail> {
+    let alloc = rt.alloc();
+    let failing = Items::of_vec(vec![in alloc; 2u32]?);
+    let mut sink = MemorySink::new(alloc, 7, failing)?;
+    assert!(rt; sink.put(b"ab").is_ok());
+    assert!(rt; sink.put(b"cdefg").is_err());
+    assert!(rt; sink.put(b"hijk").is_err());
+    assert!(rt; sink.put(b"").is_ok());
+    assert_eq!(rt; sink.bytes(), b"abcdhij".as_slice());
+    Ok(())
+}
+
+#[test]
+fn disk_source_reads_files(rt: HostRuntime) -> Result<(), Fail> {
+    let alloc = rt.alloc();
+    fs::write(&rt, "w", b"on the disk".as_slice())?;
+    let mut source = DiskSource::new(rt.clone()?, alloc);
+    assert!(rt;
+        gives(
+            alloc,
+            &mut source,
+            &path_w(alloc)?,
+            Outcome::Present,
+            b"on the disk"
+        )?
+    );
+    assert!(rt; gives(alloc, &mut source, &path_m(alloc)?, Outcome::Absent, b"")?);
+    assert!(rt; gives(alloc, &mut source, &path_here(alloc)?, Outcome::Absent, b"")?);
+    fs::remove_file(&rt, "w")?;
+    Ok(())
+}
+
+// A writer of little room.
+#[derive(Drop)]
+struct Narrow {
+    room: usize,
+}
+
+impl io::Write for Narrow {
+    fn write(&mut self, buf: &[u8]) -> io::Result<usize> {
+        let taken = self.room.min(buf.len());
+        self.room -= taken;
+        Ok(taken)
+    }
+
+    fn flush(&mut self) -> io::Result<()> {
+        Ok(())
+    }
+}
+
+#[test]
+fn out_sink_fails_where_its_writer_is_full(rt: HostRuntime) -> Result<(), Fail> {
+    let mut sink = OutSink::new(Narrow { room: 3 });
+    assert!(rt; sink.put(b"ab").is_ok());
+    assert!(rt; sink.put(b"cd").is_err());
+    assert!(rt; sink.put(b"").is_ok());
+    Ok(())
+}

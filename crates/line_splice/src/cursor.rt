@@ -1,0 +1,116 @@
+ghost use Rattle.std.specs.Prelude.{◌≡◌, ◌≢◌, ◌+◌, ◌≤◌, ◌<◌, ◌↔◌, [], length, drop, IsTrue, IsFalse, if◌then◌else◌};
+ghost use Rattle.scan_model.specs.Spliced.{spliced, last_line, byte_at, line_at, place_at};
+ghost use Rattle.line_splice.specs.Rest.{at_splice, rest_of};
+
+use crate::splices::{front, mark_len, splices_len};
+
+/// A place among the bytes of a text that show after phase 2 ([lex.phases]): without a byte order mark, with each
+/// backslash that stands before a newline taken away with it, with LF for CR LF, and with an LF added where the last
+/// byte that shows is none.
+#[derive(Clone, Copy)]
+pub struct Cursor<'a> {
+    text: &'a [u8],
+    // where the next byte lies, and its line
+    place: usize,
+    line: u32,
+    // the byte that showed last, or 0
+    last: u8,
+    ghost small: { length text.now ≤ 33554432 },
+    ghost within: { place ≤ length text.now },
+    ghost few_lines: { line ≤ place + 1 },
+    ghost shows: { IsFalse (at_splice (drop place text.now)) },
+    ghost ends: { last_line line (rest_of text.now place line last) ≡ last_line 1 (spliced text.now) },
+}
+
+// At the end the line stays that of the last byte.
+fn line_after(is_end: bool, line: u32, next: u32) -> u32
+    ensures { result ≡ (if is_end then line else next) }
+{
+    if is_end { line } else { next }
+}
+
+impl<'a> Cursor<'a> {
+    ghost use Rattle.line_splice.specs.Cursor.{text_of, rest};
+
+    /// Stands at the first byte that shows. A text has at most 32 MiB.
+    #[tactic(auto, unfolding(crate::specs::Cursor::rest))]
+    pub fn new(text: &'a [u8]) -> Cursor<'a>
+        requires { length text.now ≤ 33554432 }
+        ensures text { text_of result ≡ text.now }
+        ensures rest { rest result ≡ spliced text.now }
+    {
+        let mark = mark_len(text);
+        let (hidden, lines) = splices_len(&text[mark..]);
+        Cursor {
+            text,
+            place: mark + hidden,
+            line: 1 + lines,
+            last: 0,
+        }
+    }
+
+    /// The next byte. None exactly at the end.
+    #[tactic(auto, unfolding(crate::specs::Cursor::rest))]
+    pub fn peek(&self) -> Option<u8>
+        ensures value { result ≡ byte_at (rest self.now) }
+    {
+        match front(&self.text[self.place..], self.last) {
+            Some((byte, _, _)) => Some(byte),
+            None => None,
+        }
+    }
+
+    /// Whether no byte is left.
+    #[tactic(auto, unfolding(crate::specs::Cursor::rest))]
+    pub fn is_end(&self) -> bool
+        ensures { IsTrue result ↔ (rest self.now ≡ []) }
+    {
+        match front(&self.text[self.place..], self.last) {
+            Some(_) => false,
+            None => true,
+        }
+    }
+
+    /// The physical line, from 1, of the next byte, and at the end that of the last.
+    #[tactic(auto, unfolding(crate::specs::Cursor::rest))]
+    pub fn line(&self) -> u32
+        ensures value { result ≡ line_at (text_of self.now) (rest self.now) }
+        ensures small { result ≤ 33554433 }
+    {
+        self.line
+    }
+
+    /// The place in the text of the next byte, and at the end the length of the text. A raw string is read from there
+    /// as it is written, since phase 2 is undone in it ([lex.pptoken]).
+    #[tactic(auto, unfolding(crate::specs::Cursor::rest))]
+    pub fn raw_from(&self) -> usize
+        ensures { result ≡ place_at (text_of self.now) (rest self.now) }
+    {
+        self.place
+    }
+
+    /// Passes the next byte.
+    #[tactic(auto, unfolding(crate::specs::Cursor::rest))]
+    pub fn advance(&mut self)
+        requires { rest self.old ≢ [] }
+        ensures text { text_of self.new ≡ text_of self.old }
+        ensures rest { rest self.new ≡ drop 1 (rest self.old) }
+    {
+        let left = &self.text[self.place..];
+        if let Some((byte, taken, below)) = front(left, self.last) {
+            let (hidden, lines) = splices_len(&left[taken..]);
+            let place = self.place + taken + hidden;
+            let line = line_after(
+                (place == self.text.len()) & (byte == b'\n'),
+                self.line,
+                self.line + below + lines,
+            );
+            *self = Cursor {
+                text: self.text,
+                place,
+                line,
+                last: byte,
+            };
+        }
+    }
+}

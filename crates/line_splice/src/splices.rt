@@ -1,0 +1,69 @@
+ghost use Rattle.std.specs.Prelude.{◌≡◌, ◌+◌, ◌≤◌, ℕ, length, drop, IsFalse, MatchOption, if◌then◌else◌};
+ghost use Rattle.scan_model.specs.Spliced.{shown, mark_len};
+ghost use Rattle.line_splice.specs.Rest.{at_splice, newline_len, IsEnd, Shows};
+
+// How many bytes the newline takes that the text begins with, or 0.
+fn newline_len(text: &[u8]) -> usize
+    ensures len { result ≡ newline_len text.now }
+    ensures within { result ≤ length text.now }
+{
+    if text.len() > 0 && text[0] == b'\n' {
+        1
+    } else if text.len() > 1 && text[0] == b'\r' && text[1] == b'\n' {
+        2
+    } else {
+        0
+    }
+}
+
+// How many bytes the splices take that the text begins with, and how many lines they end.
+pub fn splices_len(text: &[u8]) -> (usize, u32)
+    requires { length text.now ≤ 33554432 }
+    ensures within { result.0 ≤ length text.now }
+    ensures few { result.1 ≤ result.0 }
+    ensures all { IsFalse (at_splice (drop result.0 text.now)) }
+    ensures same { (last place line : ℕ) → shown last 0 place line text.now
+        ≡ shown last 0 (place + result.0) (line + result.1) (drop result.0 text.now) }
+{
+    let mut len = 0;
+    let mut lines = 0;
+    while len < text.len() && text[len] == b'\\' {
+        let newline = newline_len(&text[len + 1..]);
+        if newline == 0 {
+            break;
+        }
+        len += 1 + newline;
+        lines += 1;
+    }
+    (len, lines)
+}
+
+// The byte that shows first, how many bytes of the text it takes, and how many lines it ends. The byte that showed
+// last tells whether a newline is to be added at the end.
+pub fn front(text: &[u8], last: u8) -> Option<(u8, usize, u32)>
+    requires { IsFalse (at_splice text.now) }
+    ensures { MatchOption result (IsEnd last text.now) (λ found. Shows last text.now found.0 found.1 found.2) }
+{
+    let newline = newline_len(text);
+    if newline > 0 {
+        Some((b'\n', newline, 1))
+    } else if text.len() > 0 {
+        Some((text[0], 1, 0))
+    } else if last == b'\n' {
+        None
+    } else {
+        Some((b'\n', 0, 0))
+    }
+}
+
+// How many bytes the byte order mark takes.
+pub fn mark_len(text: &[u8]) -> usize
+    ensures len { result ≡ mark_len text.now }
+    ensures within { result ≤ length text.now }
+{
+    if text.starts_with(&[0xEF, 0xBB, 0xBF]) {
+        3
+    } else {
+        0
+    }
+}

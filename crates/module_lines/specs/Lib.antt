@@ -1,0 +1,4 @@
+pub mod Identifiers
+pub mod Further
+pub mod Found
+pub mod Lines

@@ -1,0 +1,3 @@
+pub mod NormalLemmas
+pub mod WritingLemmas
+pub mod FolderLemmas

@@ -1,0 +1,16 @@
+//! Paths as texts: their normal form, a name below a base, and the folder of a path.
+//!
+//! No file is looked at, so `..` stays where it stands. The only error is want of memory.
+#![tactic(auto)]
+
+mod folders;
+mod joining;
+mod normal_form;
+mod segments;
+
+pub use folders::folder;
+pub use joining::join;
+pub use normal_form::normal;
+
+#[cfg(test)]
+mod tests;

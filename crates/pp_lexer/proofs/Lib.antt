@@ -1,0 +1,5 @@
+pub mod PlainLemmas
+pub mod TokenLemmas
+pub mod RunLemmas
+pub mod LexemeLemmas
+pub mod LinesLemmas

@@ -1,0 +1,8 @@
+pub mod Words
+pub mod Asked
+pub mod Refusals
+pub mod Verdict
+pub mod StoreMap
+pub mod Sinks
+pub mod Printed
+pub mod Run

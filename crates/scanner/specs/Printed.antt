@@ -1,0 +1,64 @@
+-- What a run prints for the ends of its commands, and its status.
+use Rattle.std.specs.Prelude.{◌≡◌, ◌⊎◌, ℕ, suc, Bool, true, false, if◌then◌else◌, List, [], ◌∷◌, ◌++◌}
+use Rattle.std.specs.List.{list_any}
+use Rattle.scan_model.specs.declared.UnitEnd.{UnitEnd}
+use Rattle.scan_model.specs.declared.UnitEnd.TheVariants.{Record, Stopped, Refused, NoMemory}
+use Rattle.p1689_writer.specs.Document.{document}
+use Rattle.report.specs.FaultLines.{fault_line}
+use Rattle.scanner.specs.Sinks.{Change, GotNothing, GotAll, GotPart}
+
+abbrev pub is_record : UnitEnd → Bool
+is_record (Record record_) = true
+is_record (Stopped fault) = false
+is_record (Refused fault) = false
+is_record NoMemory = false
+
+abbrev pub is_no_memory : UnitEnd → Bool
+is_no_memory (Record record_) = false
+is_no_memory (Stopped fault) = false
+is_no_memory (Refused fault) = false
+is_no_memory NoMemory = true
+
+abbrev pub is_failure : UnitEnd → Bool
+is_failure end = if is_record end then false else true
+
+-- the line of an end that isn't a record
+abbrev pub line_of : ℕ → UnitEnd → List ℕ
+line_of number end = if is_record end then [] else fault_line number end
+
+-- one line for each end that isn't a record, the first end having this number
+abbrev pub lines_from : ℕ → List UnitEnd → List ℕ
+lines_from number [] = []
+lines_from number (end ∷ ends) = line_of number end ++ lines_from (suc number) ends
+
+abbrev pub diagnostics : List UnitEnd → List ℕ
+diagnostics ends = lines_from 1 ends
+
+-- 7 where a command found no memory, else 1 where one failed, else 0
+abbrev pub status_of : List UnitEnd → ℕ
+status_of ends = if list_any is_no_memory ends then 7 else if list_any is_failure ends then 1 else 0
+
+-- the same where a sink failed
+abbrev pub failed_status : List UnitEnd → ℕ
+failed_status ends = if list_any is_no_memory ends then 7 else 6
+
+-- the document was put to the output, and then the lines to the error output
+pub record PrintedAll (ends : List UnitEnd) (out err : Change) (status : ℕ) : Type 0 where
+  pub status_is : status ≡ status_of ends
+  pub document_put : GotAll (document ends) out
+  pub lines_put : GotAll (diagnostics ends) err
+
+-- the output failed, and nothing was put to the error output
+pub record OutputFailed (ends : List UnitEnd) (out err : Change) (status : ℕ) : Type 0 where
+  pub status_is : status ≡ failed_status ends
+  pub document_begun : GotPart (document ends) out
+  pub no_lines : GotNothing err
+
+-- the error output failed
+pub record LinesFailed (ends : List UnitEnd) (out err : Change) (status : ℕ) : Type 0 where
+  pub status_is : status ≡ failed_status ends
+  pub document_put : GotAll (document ends) out
+  pub lines_begun : GotPart (diagnostics ends) err
+
+abbrev pub IsPrinted : List UnitEnd → Change → Change → ℕ → Type 0
+IsPrinted ends out err status = PrintedAll ends out err status ⊎ (OutputFailed ends out err status ⊎ LinesFailed ends out err status)

@@ -1,0 +1,76 @@
+-- The rows of a store: 16 shards, each with the paths that its source was asked for, and its rows.
+use Rattle.std.specs.Prelude.{◌≡◌, ◌≢◌, ◌%◌, ℕ, zero, suc, List, [], ◌∷◌, ◌++◌, map, sum, length, All, slice_index_or}
+use Rattle.std.specs.List.{flat_map}
+use Rattle.shard_cache.specs.declared.kept_row.KeptRow.{KeptRow}
+
+-- a shard, with its source seen as the paths that it was asked for and its origin
+pub record ShardView (S O G : Type 0) : Type 0 where
+  pub asked : List (List ℕ)
+  pub origin : ℕ
+  pub rows : List (KeptRow S O G)
+
+-- a source's shard before there is a row
+abbrev pub fresh_shard : {S O G : Type 0} → (S → List (List ℕ)) → (S → ℕ) → S → ShardView S O G
+fresh_shard asked origin source = record { asked = asked source; origin = origin source; rows = [] }
+
+-- the number of the shard in which a path's row stands
+abbrev pub shard_number : List ℕ → ℕ
+shard_number path = sum path % 16
+
+-- the list with one element changed
+abbrev pub change_at : {A : Type 0} → (A → A) → ℕ → List A → List A
+change_at f k [] = []
+change_at f zero (x ∷ xs) = f x ∷ xs
+change_at f (suc k) (x ∷ xs) = x ∷ change_at f k xs
+
+-- the shard whose source was asked for one path more
+abbrev pub asked_also : {S O G : Type 0} → List ℕ → ShardView S O G → ShardView S O G
+asked_also path shard = record { asked = shard.asked ++ path ∷ []; origin = shard.origin; rows = shard.rows }
+
+-- the shard with one row more
+abbrev pub kept_also : {S O G : Type 0} → KeptRow S O G → ShardView S O G → ShardView S O G
+kept_also row shard = record { asked = shard.asked; origin = shard.origin; rows = shard.rows ++ row ∷ [] }
+
+-- all rows, shard by shard
+abbrev pub all_rows : {S O G : Type 0} → List (ShardView S O G) → List (KeptRow S O G)
+all_rows shards = flat_map (λ shard. shard.rows) shards
+
+-- all paths that the sources were asked for, shard by shard
+abbrev pub all_asked : {S O G : Type 0} → List (ShardView S O G) → List (List ℕ)
+all_asked shards = flat_map (λ shard. shard.asked) shards
+
+-- the origin of each shard's source
+abbrev pub all_origins : {S O G : Type 0} → List (ShardView S O G) → List ℕ
+all_origins shards = map (λ shard. shard.origin) shards
+
+-- the rows of the shard of this number
+abbrev pub rows_at : {S O G : Type 0} → List (ShardView S O G) → ℕ → List (KeptRow S O G)
+rows_at shards k = slice_index_or (map (λ shard. shard.rows) shards) k []
+
+abbrev pub paths_of : {S O G : Type 0} → List (KeptRow S O G) → List (List ℕ)
+paths_of rows = map (λ row. row.path) rows
+
+-- no two are equal
+abbrev pub AllDiffer : List (List ℕ) → Type 0
+AllDiffer [] = Unit {0}
+AllDiffer (p ∷ ps) = All (λ q. p ≢ q) ps × AllDiffer ps
+
+-- the rows of one shard: each stands in its path's shard and has what was given for its path, and no two have one path
+pub record IsShard {S O G : Type 0} (given_path : G → List ℕ) (k : ℕ) (shard : ShardView S O G) : Type 0 where
+  pub placed : All (λ row. shard_number row.path ≡ k) shard.rows
+  pub given : All (λ row. given_path row.given ≡ row.path) shard.rows
+  pub differ : AllDiffer (paths_of shard.rows)
+
+-- the shards from number k on
+abbrev pub AreShards : {S O G : Type 0} → (G → List ℕ) → ℕ → List (ShardView S O G) → Type 0
+AreShards given_path k [] = Unit {0}
+AreShards given_path k (shard ∷ shards) = IsShard given_path k shard × AreShards given_path (suc k) shards
+
+-- what every store keeps
+pub record IsStore {S O G : Type 0} (given_path : G → List ℕ) (shards : List (ShardView S O G)) : Type 0 where
+  pub sixteen : length shards ≡ 16
+  pub each : AreShards given_path 0 shards
+
+-- no row has the path
+abbrev pub LacksPath : {S O G : Type 0} → List (ShardView S O G) → List ℕ → Type 0
+LacksPath shards path = All (λ row. row.path ≢ path) (all_rows shards)

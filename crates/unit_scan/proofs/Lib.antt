@@ -1,0 +1,3 @@
+pub mod PlainEnds
+pub mod FileLines
+pub mod ReadableLines

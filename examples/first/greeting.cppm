@@ -1,0 +1,5 @@
+export module greeting;
+import people;
+import text.format;
+
+export void greet() { }
