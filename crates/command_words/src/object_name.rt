@@ -1,5 +1,4 @@
 ghost use Rattle.std.specs.Prelude.{◌≡◌, IfOk, Some};
-ghost use Rattle.std.specs.Option.{option_map};
 ghost use Rattle.std.specs.Path.{rsplit_once};
 ghost use Rattle.command_words.specs.Commands.{last_segment, stem, object_of};
 

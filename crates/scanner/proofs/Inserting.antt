@@ -1,7 +1,6 @@
 -- One element more in the middle of a list, and one changed element of a list of lists.
-use Rattle.std.proofs.Common.{◌≡◌, ◌≢◌, ◌<◌, ℕ, zero, suc, List, [], ◌∷◌, ◌++◌, length, map, All, refl, sym, ◌∙◌, ap, append_assoc, arith}
+use Rattle.std.proofs.Common.{◌≡◌, ◌≢◌, ◌<◌, ℕ, zero, suc, List, [], ◌∷◌, ◌++◌, length, All, refl, sym, ◌∙◌, ap, append_assoc, arith}
 use Rattle.std.specs.List.{flat_map}
-use Rattle.std.proofs.lemmas.List.{map-append}
 use Rattle.std.proofs.lemmas.List.Elements.{All-cons, All-head, All-tail, All-weaker}
 use Rattle.shard_cache.specs.Rows.{AllDiffer, change_at}
 
@@ -17,11 +16,6 @@ All-insert P [] ys x all p = All-cons P x ys p all
 All-insert P (a ∷ xs) ys x all p =
     All-cons P a (xs ++ x ∷ ys) (All-head P a (xs ++ ys) all) (All-insert P xs ys x (All-tail P a (xs ++ ys) all) p)
 
-pub All-inserted : {A : Type 0} (P : A → Type 0) (xs ys : List A) (x : A) → Inserted x xs ys → All P xs → P x → All P ys
-All-inserted P xs ys x i all p =
-    let front : All P (i.before ++ i.after) = rw (← i.was) all in
-    rw i.now (All-insert P i.before i.after x front p)
-
 AllDiffer-insert : (xs ys : List (List ℕ)) (x : List ℕ) → AllDiffer (xs ++ ys) → All (λ y. y ≢ x) (xs ++ ys) → AllDiffer (xs ++ x ∷ ys)
 AllDiffer-insert [] ys x differ others = (All-weaker (λ y. y ≢ x) (λ y. x ≢ y) (λ y ne e. ne (sym e)) ys others, differ)
 AllDiffer-insert (a ∷ xs) ys x differ others = (
@@ -34,14 +28,6 @@ AllDiffer-inserted xs ys x i differ others =
     let d : AllDiffer (i.before ++ i.after) = rw (← i.was) differ in
     let o : All (λ y. y ≢ x) (i.before ++ i.after) = rw (← i.was) others in
     rw i.now (AllDiffer-insert i.before i.after x d o)
-
-pub map-inserted : {A B : Type 0} (f : A → B) (xs ys : List A) (x : A) → Inserted x xs ys → Inserted (f x) (map f xs) (map f ys)
-map-inserted f xs ys x i = record {
-  before = map f i.before;
-  after = map f i.after;
-  was = ap (map f) i.was ∙ map-append f i.before i.after;
-  now = ap (map f) i.now ∙ map-append f i.before (x ∷ i.after);
-}
 
 -- the changed part gives one element more, at its end
 pub flat_map-change_at : {X A : Type 0} (f : X → List A) (g : X → X) (a : A) (k : ℕ) (xs : List X) → ((x : X) → f (g x) ≡ f x ++ a ∷ []) → k < length xs → Inserted a (flat_map f xs) (flat_map f (change_at g k xs))

@@ -3,14 +3,16 @@ use Rattle.std.proofs.Common.{◌≡◌, ◌≢◌, ◌<◌, ℕ, zero, suc, Boo
 use Rattle.std.specs.Prelude.{slice_get}
 use Rattle.std.proofs.lemmas.Slice.Eq.{bytes_eq-Decides}
 use Rattle.std.proofs.lemmas.List.{map-append}
-use Rattle.std.proofs.lemmas.List.Elements.{All-nil, All-cons, All-head, All-tail, All-push, All-map, All-weaker, Contains-append_left, Contains-append_right}
+use Rattle.std.proofs.lemmas.List.Elements.{All-nil, All-head, All-tail, All-push, All-weaker, Contains-append_left, Contains-append_right}
 use Rattle.scan_model.specs.declared.Outcome.{Outcome}
 use Rattle.scan_model.specs.Files.{content}
 use Rattle.scan_model.specs.TokenTests.{same}
 use Rattle.shard_cache.specs.declared.KeptRow.{KeptRow}
 use Rattle.shard_cache.specs.Rows.{ShardView, all_rows, all_asked, all_origins, paths_of, LacksPath, change_at, asked_also, kept_also, shard_number, IsStore}
 use Rattle.scanner.specs.StoreMap.{file_map, IsGivenHere, AreGiven, IsOneMap, HaveRows, IsUntouched}
-use Rattle.scanner.proofs.Inserting.{Inserted, AllDiffer-inserted, map-inserted, flat_map-change_at, flat_map-change_at_same, change_at-change_at}
+use Rattle.shard_cache.proofs.RowLemmas.{All-parts}
+use Rattle.shard_cache.proofs.StoreLemmas.{all_rows-asked, IsStore-differ}
+use Rattle.scanner.proofs.Inserting.{Inserted, AllDiffer-inserted, flat_map-change_at, change_at-change_at}
 
 -- ## An untouched store
 
@@ -42,9 +44,7 @@ rows_of_nothing (s ∷ ss) e = let parts = append-nil_parts s.asked (all_asked s
 -- ## An ask
 
 pub LacksPath-asked : {S O G : Type 0} (asked : List ℕ) (k : ℕ) (ss : List (ShardView S O G)) (path : List ℕ) → LacksPath ss path → LacksPath (change_at (asked_also asked) k ss) path
-LacksPath-asked {S} {O} {G} asked k ss path l =
-    let same_rows : all_rows (change_at (asked_also asked) k ss) ≡ all_rows ss = flat_map-change_at_same (λ (s : ShardView S O G). s.rows) (asked_also asked) k ss (λ s. refl) in
-    rw same_rows l
+LacksPath-asked asked k ss path l = rw (all_rows-asked asked k ss) l
 
 given_asked : {S O G : Type 0} (gp : G → List ℕ) (go : G → ℕ) (path : List ℕ) (k : ℕ) (ss : List (ShardView S O G)) → AreGiven gp go ss → AreGiven gp go (change_at (asked_also path) k ss)
 given_asked gp go path k [] g = tt
@@ -59,14 +59,12 @@ given_asked {S} {O} {G} gp go path zero (s ∷ ss) g = (
 given_asked gp go path (suc k) (s ∷ ss) g = (g.0, given_asked gp go path k ss g.1)
 
 -- a path that nobody asked for is asked for
-pub IsOneMap-asked : {S O G : Type 0} (gp : G → List ℕ) (go : G → ℕ) (path : List ℕ) (k : ℕ) (ss : List (ShardView S O G)) → k < length ss → All (λ other. other ≢ path) (all_asked ss) → IsOneMap gp go ss → IsOneMap gp go (change_at (asked_also path) k ss)
-IsOneMap-asked {S} {O} {G} gp go path k ss inside new m = record {
+pub IsOneMap-asked : {S O G : Type 0} (gp : G → List ℕ) (go : G → ℕ) (path : List ℕ) (k : ℕ) (ss : List (ShardView S O G)) → k < length ss → All (λ other. other ≢ path) (all_asked ss) → IsStore gp (change_at (asked_also path) k ss) → IsOneMap gp go ss → IsOneMap gp go (change_at (asked_also path) k ss)
+IsOneMap-asked {S} {O} {G} gp go path k ss inside new valid m = record {
   asked_once =
       AllDiffer-inserted (all_asked ss) (all_asked (change_at (asked_also path) k ss)) path
       (flat_map-change_at (λ (s : ShardView S O G). s.asked) (asked_also path) path k ss (λ s. refl) inside) m.asked_once new;
-  paths_differ =
-      let same_rows : all_rows (change_at (asked_also path) k ss) ≡ all_rows ss = flat_map-change_at_same (λ (s : ShardView S O G). s.rows) (asked_also path) k ss (λ s. refl) in
-      rw same_rows m.paths_differ;
+  paths_differ = IsStore-differ gp (change_at (asked_also path) k ss) valid;
   given = given_asked gp go path k ss m.given;
 }
 
@@ -75,9 +73,6 @@ IsOneMap-asked {S} {O} {G} gp go path k ss inside new m = record {
 -- the shard in which the path was asked for, with the path's row
 abbrev pub asked_and_kept : {S O G : Type 0} → List ℕ → KeptRow S O G → ShardView S O G → ShardView S O G
 asked_and_kept path row s = kept_also row (asked_also path s)
-
-lacks_all : {S O G : Type 0} (path : List ℕ) (ss : List (ShardView S O G)) → LacksPath ss path → All (λ other. other ≢ path) (paths_of (all_rows ss))
-lacks_all {S} {O} {G} path ss l = All-map (λ other. other ≢ path) (λ (row : KeptRow S O G). row.path) (all_rows ss) l
 
 given_kept : {S O G : Type 0} (gp : G → List ℕ) (go : G → ℕ) (path : List ℕ) (row : KeptRow S O G) (k : ℕ) (ss : List (ShardView S O G)) → row.path ≡ path → gp row.given ≡ row.path → slice_get (all_origins ss) k ≡ Some (go row.given) → AreGiven gp go ss → AreGiven gp go (change_at (asked_and_kept path row) k ss)
 given_kept gp go path row k [] same_path given origin g = tt
@@ -96,16 +91,12 @@ given_kept {S} {O} {G} gp go path row zero (s ∷ ss) same_path given origin g =
 given_kept gp go path row (suc k) (s ∷ ss) same_path given origin g = (g.0, given_kept gp go path row k ss same_path given origin g.1)
 
 -- a path that nobody asked for is asked for, and its row is added
-pub IsOneMap-kept : {S O G : Type 0} (gp : G → List ℕ) (go : G → ℕ) (path : List ℕ) (row : KeptRow S O G) (k : ℕ) (ss : List (ShardView S O G)) → k < length ss → row.path ≡ path → gp row.given ≡ row.path → slice_get (all_origins ss) k ≡ Some (go row.given) → All (λ other. other ≢ path) (all_asked ss) → LacksPath ss path → IsOneMap gp go ss → IsOneMap gp go (change_at (asked_and_kept path row) k ss)
-IsOneMap-kept {S} {O} {G} gp go path row k ss inside same_path given origin new lacks m = record {
+pub IsOneMap-kept : {S O G : Type 0} (gp : G → List ℕ) (go : G → ℕ) (path : List ℕ) (row : KeptRow S O G) (k : ℕ) (ss : List (ShardView S O G)) → k < length ss → row.path ≡ path → gp row.given ≡ row.path → slice_get (all_origins ss) k ≡ Some (go row.given) → All (λ other. other ≢ path) (all_asked ss) → IsStore gp (change_at (asked_and_kept path row) k ss) → IsOneMap gp go ss → IsOneMap gp go (change_at (asked_and_kept path row) k ss)
+IsOneMap-kept {S} {O} {G} gp go path row k ss inside same_path given origin new valid m = record {
   asked_once =
       AllDiffer-inserted (all_asked ss) (all_asked (change_at (asked_and_kept path row) k ss)) path
       (flat_map-change_at (λ (s : ShardView S O G). s.asked) (asked_and_kept path row) path k ss (λ s. refl) inside) m.asked_once new;
-  paths_differ =
-      let rows = flat_map-change_at (λ (s : ShardView S O G). s.rows) (asked_and_kept path row) row k ss (λ s. refl) inside in
-      let others : All (λ other. other ≢ row.path) (paths_of (all_rows ss)) = rw same_path (lacks_all path ss lacks) in
-      AllDiffer-inserted (paths_of (all_rows ss)) (paths_of (all_rows (change_at (asked_and_kept path row) k ss))) row.path
-      (map-inserted (λ (r : KeptRow S O G). r.path) (all_rows ss) (all_rows (change_at (asked_and_kept path row) k ss)) row rows) m.paths_differ others;
+  paths_differ = IsStore-differ gp (change_at (asked_and_kept path row) k ss) valid;
   given = given_kept gp go path row k ss same_path given origin m.given;
 }
 
@@ -121,10 +112,6 @@ HaveRows-kept {S} {O} {G} path row zero (s ∷ ss) same_path h =
 HaveRows-kept path row (suc k) (s ∷ ss) same_path h = (h.0, HaveRows-kept path row k ss same_path h.1)
 
 -- ## The file map
-
-All-front : {A : Type 0} (P : A → Type 0) (xs ys : List A) → All P (xs ++ ys) → All P xs
-All-front P [] ys all = All-nil P
-All-front P (x ∷ xs) ys all = All-cons P x xs (All-head P x (xs ++ ys) all) (All-front P xs ys (All-tail P x (xs ++ ys) all))
 
 file_map-lacking : {S O G : Type 0} (outcome : G → Outcome) (bytes : G → List ℕ) (path : List ℕ) (rows more : List (KeptRow S O G)) → All (λ row. row.path ≢ path) rows → file_map outcome bytes (rows ++ more) path ≡ file_map outcome bytes more path
 file_map-lacking outcome bytes path [] more l = refl
@@ -145,9 +132,10 @@ pub file_map-kept : {S O G : Type 0} (outcome : G → Outcome) (bytes : G → Li
 file_map-kept {S} {O} {G} outcome bytes path row k ss inside same_path l =
     let added = flat_map-change_at (λ (s : ShardView S O G). s.rows) (asked_and_kept path row) row k ss (λ s. refl) inside in
     let lacks : All (λ (r : KeptRow S O G). r.path ≢ path) (added.before ++ added.after) = rw (← added.was) l in
+    let others : All (λ (r : KeptRow S O G). r.path ≢ path) added.before = (All-parts (λ (r : KeptRow S O G). r.path ≢ path) added.before added.after lacks).0 in
     let found : same row.path path ≡ true = (bytes_eq-Decides row.path path).1 same_path in
     ap (λ rows. file_map outcome bytes rows path) added.now
-    ∙ (file_map-lacking outcome bytes path added.before (row ∷ added.after) (All-front (λ (r : KeptRow S O G). r.path ≢ path) added.before added.after lacks) ∙ rw found refl)
+    ∙ (file_map-lacking outcome bytes path added.before (row ∷ added.after) others ∙ rw found refl)
 
 -- ## A fresh store in which one path is asked for
 

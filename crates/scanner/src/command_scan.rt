@@ -1,4 +1,4 @@
-ghost use Rattle.std.specs.Prelude.{◌≡◌, All, Contains, IfOk, OnOk};
+ghost use Rattle.std.specs.Prelude.{All, Contains, IfOk, OnOk};
 ghost use Rattle.shard_cache.specs.Rows.{all_rows, all_asked};
 ghost use Rattle.unit_scan.specs.PlainAnswer.{main_paths};
 ghost use Rattle.scanner.specs.StoreMap.{file_map, IsOneMap, IsUntouched, HaveRows};

@@ -1,6 +1,6 @@
-ghost use Rattle.std.specs.Prelude.{◌≡◌, ◌⊎◌, ◌<◌, ◌-◌, ◌^◌, ◌++◌, IfOk, OnOk, length};
+ghost use Rattle.std.specs.Prelude.{◌≡◌, ◌<◌, ◌-◌, ◌^◌, ◌++◌, IfOk, OnOk, length};
 ghost use Rattle.std.specs.List.{list_any};
-ghost use Rattle.scanner.specs.Printed.{is_record, is_no_memory, is_failure, line_of, diagnostics, status_of, failed_status, IsPrinted};
+ghost use Rattle.scanner.specs.Printed.{is_record, is_no_memory, is_failure, line_of, diagnostics, status_of, failed_status};
 ghost use Rattle.scanner.specs.Run.{IsPrintedUnlessNoMemory, IsToldNoMemory};
 ghost use Rattle.scanner.specs.Sinks.{change};
 

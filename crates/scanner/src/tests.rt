@@ -1,4 +1,4 @@
-ghost use Rattle.std.specs.Prelude.{◌≡◌, ◌≤◌, [], All, IfOk, string_len, vec_len};
+ghost use Rattle.std.specs.Prelude.{◌≡◌, [], All, IfOk, vec_len};
 ghost use Rattle.scanner.specs.StoreMap.{IsUntouched};
 
 use crate::{Outside, scan_alone};
@@ -18,11 +18,12 @@ enum Has {
     Failure,
 }
 
-// One run: its words, the database at /p/db.json, and the main file at /p/u.cpp.
+// One run: its words, the database at /p/db.json, and the main file.
 #[derive(Clone, Copy)]
 struct Case {
     words: [&'static str; 4],
     database: Has,
+    path: &'static str,
     main: Has,
     status: u8,
     out: &'static str,
@@ -34,18 +35,21 @@ const WORDS: [&str; 4] = ["scan_deps", "--compilation-database=/p/db.json", "-j"
 const DATABASE: &str =
     "[{\"directory\":\"/p\",\"file\":\"u.cpp\",\"arguments\":[\"c++\",\"-c\",\"u.cpp\"]}]";
 
+const INTERFACE_DATABASE: &str =
+    "[{\"directory\":\"/p\",\"file\":\"m.cppm\",\"arguments\":[\"c++\",\"-c\",\"m.cppm\"]}]";
+
 const NO_RULES: &str = "{\n  \"revision\": 0,\n  \"rules\": [],\n  \"version\": 1\n}\n";
 
 const PROVIDES_M: &str = "{
   \"revision\": 0,
   \"rules\": [
     {
-      \"primary-output\": \"u.o\",
+      \"primary-output\": \"m.o\",
       \"provides\": [
         {
           \"is-interface\": true,
           \"logical-name\": \"M\",
-          \"source-path\": \"/p/u.cpp\"
+          \"source-path\": \"/p/m.cppm\"
         }
       ]
     }
@@ -80,10 +84,24 @@ fn scan(main: Has, status: u8, out: &'static str, err: &'static str) -> Case {
     Case {
         words: WORDS,
         database: Has::Text(DATABASE),
+        path: "/p/u.cpp",
         main,
         status,
         out,
         err,
+    }
+}
+
+// A run that scans the interface unit of the module M.
+fn interface() -> Case {
+    Case {
+        words: WORDS,
+        database: Has::Text(INTERFACE_DATABASE),
+        path: "/p/m.cppm",
+        main: Has::Text("export module M;"),
+        status: 0,
+        out: PROVIDES_M,
+        err: "",
     }
 }
 
@@ -92,6 +110,7 @@ fn refuse(words: [&'static str; 4], database: Has, status: u8, err: &'static str
     Case {
         words,
         database,
+        path: "/p/u.cpp",
         main: Has::Nothing,
         status,
         out: "",
@@ -118,23 +137,28 @@ fn script(alloc: Global, path: &str, has: &Has) -> Result<Items<Scripted>, Fail>
     Ok(Items::of_vec(vec![in alloc; Scripted { path, outcomes }]?))
 }
 
-fn sources(alloc: Global, main: &Has) -> Result<Vec<MemorySource>, Fail>
+fn sources(alloc: Global, path: &str, main: &Has) -> Result<Vec<MemorySource>, Fail>
     ensures sixteen { IfOk result (λ sources. vec_len sources ≡ 16) }
     ensures fresh { IfOk result (λ sources. All (λ source. ⟦<MemorySource as Source>⟧.asked source ≡ []) sources.items) }
 {
     let mut sources = Vec::new(alloc);
     'shards: while sources.len() < 16 {
-        sources.push(MemorySource::new(alloc, script(alloc, "/p/u.cpp", main)?)?)?;
+        sources.push(MemorySource::new(alloc, script(alloc, path, main)?)?)?;
     }
     Ok(sources)
 }
 
-fn outside(alloc: Global, database: &Has, main: &Has) -> Result<Outside<MemorySource>, Fail>
+fn outside(
+    alloc: Global,
+    database: &Has,
+    path: &str,
+    main: &Has,
+) -> Result<Outside<MemorySource>, Fail>
     ensures fresh_db { IfOk result (λ outside. ⟦<MemorySource as Source>⟧.asked outside.db ≡ []) }
     ensures fresh_store { IfOk result (λ outside. IsUntouched outside.store) }
 {
     let db = MemorySource::new(alloc, script(alloc, "/p/db.json", database)?)?;
-    match Store::new(alloc, sources(alloc, main)?) {
+    match Store::new(alloc, sources(alloc, path, main)?) {
         Ok(store) => Ok(Outside { db, store }),
         Err(_) => Err(Fail::from("memory")),
     }
@@ -143,7 +167,7 @@ fn outside(alloc: Global, database: &Has, main: &Has) -> Result<Outside<MemorySo
 fn is_as_said(rt: &impl Abort, alloc: Global, case: &Case) -> Result<(), Fail> {
     let words = words_of(alloc, case.words)?;
     assert!(rt; words.iter().all(|word| word.len() <= 33_554_432));
-    let outside = outside(alloc, &case.database, &case.main)?;
+    let outside = outside(alloc, &case.database, case.path, &case.main)?;
     let mut out = MemorySink::new(alloc, 65_536, Items::new(alloc))?;
     let mut err = MemorySink::new(alloc, 65_536, Items::new(alloc))?;
     let ended = scan_alone(alloc, &words, outside, &mut out, &mut err);
@@ -156,7 +180,7 @@ fn is_as_said(rt: &impl Abort, alloc: Global, case: &Case) -> Result<(), Fail> {
 #[test]
 fn units(rt: HostRuntime) -> Result<(), Fail> {
     for case in [
-        scan(Has::Text("export module M;"), 0, PROVIDES_M, ""),
+        interface(),
         scan(
             Has::Text("module M;\nimport N;\nimport N;\n"),
             0,
@@ -253,7 +277,8 @@ fn an_output_that_fails(rt: HostRuntime) -> Result<(), Fail> {
     let alloc = rt.alloc();
     let words = words_of(alloc, WORDS)?;
     assert!(rt; words.iter().all(|word| word.len() <= 33_554_432));
-    let outside = outside(alloc, &Has::Text(DATABASE), &Has::Text("export module M;"))?;
+    let case = interface();
+    let outside = outside(alloc, &case.database, case.path, &case.main)?;
     let mut out = MemorySink::new(alloc, 65_536, Items::of_vec(vec![in alloc; 1]?))?;
     let mut err = MemorySink::new(alloc, 65_536, Items::new(alloc))?;
     let ended = scan_alone(alloc, &words, outside, &mut out, &mut err);

@@ -1,9 +1,8 @@
-ghost use Rattle.std.specs.Prelude.{◌≡◌, ◌⊎◌, ◌≤◌, length, IfOk, MatchResult, map, Option};
+ghost use Rattle.std.specs.Prelude.{◌≡◌, ◌⊎◌, ◌≤◌, length, IfOk, Option};
 ghost use Rattle.std.specs.Option.{option_map};
 ghost use Rattle.std.specs.List.{find as first_of};
 ghost use Rattle.scan_model.specs.Files.{content};
-ghost use Rattle.scan_model.specs.Stream.{read_stream};
-ghost use Rattle.unit_scan.specs.PlainAnswer.{is_built_in, has_built_in, not_yet, stopped, content_end, text_end};
+ghost use Rattle.unit_scan.specs.PlainAnswer.{is_built_in, has_built_in, stopped, content_end, text_end};
 
 use crate::directive_lines::kept_lines;
 use crate::file_lines::read_file_lines;

@@ -22,10 +22,11 @@ returns-in-Ok-clause-one_map g c =
     let ss = c.args.store.now in
     let inside = shard_inside g.S.Source.given_path (asked_also path) path ss c.ask.new.self c.in_ok-opener.ensures.ok c.in_ok-opener.ensures.valid in
     let given : g.S.Source.given_path c.read-given.result ≡ path = c.read-given.ensures.path ∙ c.in_ok-opener.ensures.opener in
-    rw (asked_then_kept path _ ss c.ask.new.self c.add.new.self refl c.in_ok-opener.ensures.ok c.in-Ok.ensures.ok)
+    let kept = asked_then_kept path _ ss c.ask.new.self c.add.new.self refl c.in_ok-opener.ensures.ok c.in-Ok.ensures.ok in
+    rw kept
     (IsOneMap-kept g.S.Source.given_path g.S.Source.given_origin path _ (shard_number path) ss inside refl given
-    (c.in_ok-opener.ensures.opened_here ∙ ap Some (sym c.read-given.ensures.same_origin)) (IsUntouched-new ss path c.requires) (IsUntouched-LacksPath ss path c.requires)
-    (IsUntouched-IsOneMap g.S.Source.given_path g.S.Source.given_origin ss c.requires))
+    (c.in_ok-opener.ensures.opened_here ∙ ap Some (sym c.read-given.ensures.same_origin)) (IsUntouched-new ss path c.requires)
+    (rw (← kept) c.in-Ok.ensures.valid) (IsUntouched-IsOneMap g.S.Source.given_path g.S.Source.given_origin ss c.requires))
 
 pub returns-in-Ok-clause-have_rows : goal.returns-in-Ok-clause-have_rows
 returns-in-Ok-clause-have_rows g c =
@@ -59,7 +60,8 @@ returns-in-Err-clause-one_map g c =
     let ss = c.args.store.now in
     let inside = shard_inside g.S.Source.given_path (asked_also path) path ss c.ask.new.self c.in_ok-opener.ensures.ok c.in_ok-opener.ensures.valid in
     rw (c.in-Err.ensures.err.1, c.in_ok-opener.ensures.ok)
-    (IsOneMap-asked g.S.Source.given_path g.S.Source.given_origin path (shard_number path) ss inside (IsUntouched-new ss path c.requires) (IsUntouched-IsOneMap g.S.Source.given_path g.S.Source.given_origin ss c.requires))
+    (IsOneMap-asked g.S.Source.given_path g.S.Source.given_origin path (shard_number path) ss inside (IsUntouched-new ss path c.requires)
+    (rw (← c.in_ok-opener.ensures.ok) c.in_ok-opener.ensures.valid) (IsUntouched-IsOneMap g.S.Source.given_path g.S.Source.given_origin ss c.requires))
 
 pub returns-in-Err-clause-looked : goal.returns-in-Err-clause-looked
 returns-in-Err-clause-looked g c =
