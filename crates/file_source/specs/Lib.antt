@@ -1,4 +1,5 @@
 pub mod CameOf
 pub mod Givens
+pub mod Made
 pub mod Scripts
 pub mod Sinks

@@ -31,6 +31,27 @@ impl Came {
             Came::Big(len)
         }
     }
+
+    pub(crate) fn outcome(&self) -> Outcome
+        ensures { result ≡ outcome_of self.now }
+    {
+        match self {
+            Came::Present(_) => Outcome::Present,
+            Came::Absent => Outcome::Absent,
+            Came::Failed(_) => Outcome::Failed,
+            Came::Big(_) => Outcome::Big,
+            Came::NoMemory(_) => Outcome::NoMemory,
+        }
+    }
+
+    pub(crate) fn bytes(&self) -> &[u8]
+        ensures { result.now ≡ bytes_of self.now }
+    {
+        match self {
+            Came::Present(bytes) => bytes.as_slice(),
+            _ => &[],
+        }
+    }
 }
 
 /// What one read of a path gave. Only the calls of a source make one.
@@ -55,22 +76,13 @@ impl Given {
         ensures value { result ≡ outcome_of self.now.came }
         ensures caused { IsCaused self.now.came }
     {
-        match &self.came {
-            Came::Present(_) => Outcome::Present,
-            Came::Absent => Outcome::Absent,
-            Came::Failed(_) => Outcome::Failed,
-            Came::Big(_) => Outcome::Big,
-            Came::NoMemory(_) => Outcome::NoMemory,
-        }
+        self.came.outcome()
     }
 
     /// The file's bytes where it is Present, and none otherwise.
     pub fn bytes(&self) -> &[u8]
         ensures { result.now ≡ bytes_of self.now.came }
     {
-        match &self.came {
-            Came::Present(bytes) => bytes.as_slice(),
-            _ => &[],
-        }
+        self.came.bytes()
     }
 }

@@ -1,4 +1,4 @@
-ghost use Rattle.std.specs.Prelude.{◌≡◌, ◌≤◌, ◌<◌, ◌+◌, ◌-◌, ◌^◌, ◌++◌, [], Some, IfOk, OnOk, OnErr, is_err, min, take, length, vec_len};
+ghost use Rattle.std.specs.Prelude.{◌≡◌, ◌≤◌, ◌<◌, ◌+◌, ◌-◌, ◌++◌, [], Some, IfOk, OnOk, OnErr, is_err, min, take, length, vec_len};
 ghost use Rattle.std.specs.Vec.{vec_capacity};
 ghost use Rattle.file_source.specs.Sinks.{Rose, Adds, AddsPrefix, next_count, is_listed, is_refused, added_len};
 

@@ -1,5 +1,4 @@
-ghost use Rattle.std.specs.Prelude.{◌≡◌, [], ◌∷◌, ◌++◌, IfOk, OnOk, OnErr, IsOk, IfSome};
-ghost use Rattle.file_source.specs.Givens.{IsGiven};
+ghost use Rattle.std.specs.Prelude.{◌≡◌, [], ◌∷◌, ◌++◌, IfOk, OnOk, OnErr};
 ghost use Rattle.file_source.specs.CameOf.{IsCaused, outcome_of, bytes_of, faults_of, count_of};
 ghost use Rattle.file_source.specs.Scripts.{came_of_script, outcome_at, scripted_at, times};
 

@@ -1,10 +1,13 @@
+ghost use Rattle.std.specs.Prelude.{◌≡◌};
 ghost use Rattle.scan_model.specs.Paths.{IsNormal};
 
 use crate::{
-    DiskSource, MemorySink, MemorySource, OutSink, Scripted, ScriptedOutcome, Sink, Source,
+    DiskSource, Listed, MadeFile, MemorySink, MemorySource, OutSink, PlainSource, Scripted,
+    ScriptedOutcome, Sink, Source,
 };
 use scan_model::{Bytes, Items, Outcome, PathText};
 use std::alloc::Global;
+use std::marker::Brand;
 use std::test::Fail;
 use std::{fs, io};
 
@@ -62,6 +65,49 @@ fn memory_source_follows_its_script(rt: HostRuntime) -> Result<(), Fail> {
     let w = path_w(alloc)?;
     assert!(rt; gives(alloc, &mut source, &w, Outcome::Present, b"text")?);
     assert!(rt; gives(alloc, &mut source, &w, Outcome::Failed, b"")?);
+    Ok(())
+}
+
+fn made_files(alloc: Global) -> Result<Items<MadeFile>, Fail> {
+    let mut files = Vec::new(alloc);
+    files.push(MadeFile {
+        path: path_w(alloc)?,
+        text: Bytes::copy(alloc, b"one")?,
+    })?;
+    files.push(MadeFile {
+        path: path_m(alloc)?,
+        text: Bytes::copy(alloc, b"two")?,
+    })?;
+    Ok(Items::of_vec(files))
+}
+
+// Whether a source of these files gives `one` for `w`, `two` for `m`, and nothing for `.`.
+fn plain_gives<J: Listed + Send + Sync>(alloc: Global, files: Items<MadeFile>) -> Result<bool, Fail>
+    requires { files ≡ J.files }
+{
+    let mut source = PlainSource::<J>::new(alloc, files)?;
+    let one = gives(
+        alloc,
+        &mut source,
+        &path_w(alloc)?,
+        Outcome::Present,
+        b"one",
+    )?;
+    let two = gives(
+        alloc,
+        &mut source,
+        &path_m(alloc)?,
+        Outcome::Present,
+        b"two",
+    )?;
+    let none = gives(alloc, &mut source, &path_here(alloc)?, Outcome::Absent, b"")?;
+    Ok(one && two && none)
+}
+
+#[test]
+fn plain_source_gives_what_is_listed(rt: HostRuntime) -> Result<(), Fail> {
+    let alloc = rt.alloc();
+    assert!(rt; plain_gives::<Brand>(alloc, made_files(alloc)?)?);
     Ok(())
 }
 

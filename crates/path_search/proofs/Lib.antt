@@ -1,3 +1,4 @@
 pub mod NormalLemmas
 pub mod WritingLemmas
 pub mod FolderLemmas
+pub mod CandidateLemmas

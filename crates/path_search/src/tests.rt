@@ -1,5 +1,5 @@
-use crate::{folder, join, normal};
-use scan_model::NoMemory;
+use crate::{candidate, folder, join, normal};
+use scan_model::{Form, Items, NoMemory, PathText, SearchList};
 use std::alloc::Global;
 use std::test::Fail;
 
@@ -71,6 +71,68 @@ fn paths_by_hand(rt: HostRuntime) -> Result<(), Fail> {
     ];
     for (path, expected) in folders {
         assert!(rt; folder_is(alloc, path, expected)?);
+    }
+    Ok(())
+}
+
+// A list of one folder.
+fn one(alloc: Global, path: &[u8]) -> Result<Items<PathText>, Fail> {
+    let mut paths = Vec::new(alloc);
+    paths.push(normal(alloc, path)?)?;
+    Ok(Items::of_vec(paths))
+}
+
+// The path of this number is the expected one, or there is none where nothing is expected.
+fn candidate_is(
+    alloc: Global,
+    list: &SearchList,
+    form: Form,
+    name: &[u8],
+    k: u32,
+    expected: &[u8],
+) -> Result<bool, Fail> {
+    let program = one(alloc, b"/s")?;
+    let from = normal(alloc, b"/p/a")?;
+    match candidate(alloc, list, &program, form, &from, name, k)? {
+        None => Ok(expected.is_empty()),
+        Some(path) => Ok(path.as_slice() == expected),
+    }
+}
+
+#[test]
+fn candidates_by_hand(rt: HostRuntime) -> Result<(), Fail> {
+    let alloc = rt.alloc();
+    let short = SearchList {
+        quote: one(alloc, b"/p/q")?,
+        angled: one(alloc, b"/p/i")?,
+        system: Items::new(alloc),
+        after: Items::new(alloc),
+    };
+    let full = SearchList {
+        quote: Items::new(alloc),
+        angled: one(alloc, b"i")?,
+        system: one(alloc, b"y")?,
+        after: one(alloc, b"z")?,
+    };
+    let rows: [(&SearchList, Form, &[u8], u32, &[u8]); 15] = [
+        (&short, Form::Quoted, b"v.h", 0, b"/p/a/v.h"),
+        (&short, Form::Quoted, b"v.h", 1, b"/p/q/v.h"),
+        (&short, Form::Quoted, b"v.h", 2, b"/p/i/v.h"),
+        (&short, Form::Quoted, b"v.h", 3, b"/s/v.h"),
+        (&short, Form::Quoted, b"v.h", 4, b""),
+        (&short, Form::Angled, b"v.h", 0, b"/p/i/v.h"),
+        (&short, Form::Angled, b"v.h", 1, b"/s/v.h"),
+        (&short, Form::Angled, b"v.h", 2, b""),
+        (&short, Form::Quoted, b"/v//h", 0, b"/v/h"),
+        (&short, Form::Quoted, b"/v//h", 1, b""),
+        (&full, Form::Angled, b"./v.h", 0, b"i/v.h"),
+        (&full, Form::Angled, b"./v.h", 1, b"y/v.h"),
+        (&full, Form::Angled, b"./v.h", 2, b"/s/v.h"),
+        (&full, Form::Angled, b"./v.h", 3, b"z/v.h"),
+        (&full, Form::Angled, b"./v.h", 4, b""),
+    ];
+    for (list, form, name, k, expected) in rows {
+        assert!(rt; candidate_is(alloc, list, form, name, k, expected)?);
     }
     Ok(())
 }

@@ -1,0 +1,6 @@
+mod MarkLemmas
+mod TurnLemmas
+mod StepsKept
+mod SeatsKept
+mod Opening
+mod Closing
