@@ -52,7 +52,7 @@ fn paths_by_hand(rt: HostRuntime) -> Result<(), Fail> {
         (b"p/q", b"../v.h", b"p/q/../v.h"),
         (b"..", b"..", b"../.."),
         (b".", b"./.", b"."),
-        (b"/p", b"/v//h", b"/v/h"),
+        (b"/p", b"/q/./r", b"/q/r"),
         (b"p", b"/", b"/"),
         (b".", b"..", b".."),
     ];
