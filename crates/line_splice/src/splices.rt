@@ -1,4 +1,4 @@
-ghost use Rattle.std.specs.Prelude.{◌≡◌, ◌+◌, ◌≤◌, ℕ, length, drop, IsFalse, MatchOption, if◌then◌else◌};
+ghost use Rattle.std.specs.Prelude.{◌≡◌, ◌+◌, ◌≤◌, ℕ, length, drop, IsFalse, MatchOption};
 ghost use Rattle.scan_model.specs.Spliced.{shown, mark_len};
 ghost use Rattle.line_splice.specs.Rest.{at_splice, newline_len, IsEnd, Shows};
 

@@ -7,7 +7,8 @@ use Rattle.std.proofs.lemmas.List.{at_drop_more}
 use Rattle.scan_model.specs.declared.command.Form.{Form}
 use Rattle.scan_model.specs.declared.command.SearchList.{SearchList}
 use Rattle.scan_model.specs.Paths.{is_absolute, normal, join}
-use Rattle.path_search.specs.Candidates.{candidates, chained, folders}
+use Rattle.scan_model.specs.Candidates.{candidates, folders}
+use Rattle.path_search.specs.Lists.{chained}
 
 -- ---- lists after one another
 

@@ -1,6 +1,7 @@
 ghost use Rattle.std.specs.Prelude.{◌≡◌, [], ◌∷◌, IfOk, slice_get, option_copied};
 ghost use Rattle.scan_model.specs.Paths.{normal};
-ghost use Rattle.path_search.specs.Candidates.{candidates, chained, folders};
+ghost use Rattle.scan_model.specs.Candidates.{candidates, folders};
+ghost use Rattle.path_search.specs.Lists.{chained};
 
 use crate::segments::is_absolute;
 use crate::{join, normal};

@@ -6,7 +6,10 @@
 
 mod bytes;
 mod command;
+mod condition;
+mod expansion;
 mod items;
+mod macros;
 mod memory;
 mod module_line;
 mod outcome;
@@ -17,7 +20,10 @@ mod unit_end;
 
 pub use bytes::Bytes;
 pub use command::{Command, CommandFault, Form, Job, SearchList, Setting, Settings};
+pub use condition::{CondFault, CondValue, HasAt, HasNext};
+pub use expansion::{Expanded, Mode, Site};
 pub use items::Items;
+pub use macros::{BuiltIn, Def, FunctionDef};
 pub use memory::NoMemory;
 pub use module_line::{Keyword, ModuleFault};
 pub use outcome::Outcome;

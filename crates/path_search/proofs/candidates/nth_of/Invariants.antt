@@ -1,5 +1,5 @@
 use Rattle.std.proofs.Common.{◌≡◌, drop, slice_get}
-use Rattle.path_search.specs.Candidates.{chained}
+use Rattle.path_search.specs.Lists.{chained}
 use Rattle.path_search.proofs.candidates.nth_of.Given as goal
 
 abbrev pub invariant-lists : goal.invariant-lists

@@ -1,10 +1,9 @@
--- Where a header's name is looked for, in order.
+-- Where a header's name is looked for, in order ([cpp.include]).
 use Rattle.std.specs.Prelude.{ℕ, if◌then◌else◌, List, [], ◌∷◌, ◌++◌, map}
 use Rattle.scan_model.specs.declared.command.Form.{Form}
 use Rattle.scan_model.specs.declared.command.Form.TheVariants.{Quoted, Angled}
 use Rattle.scan_model.specs.declared.command.SearchList.{SearchList}
 use Rattle.scan_model.specs.Paths.{is_absolute, normal, join}
-use Rattle.std.specs.Borrow.{Bor}
 
 -- `-I`, `-isystem`, the program's folders, and `-idirafter`
 abbrev pub angled_folders : SearchList → List (List ℕ) → List (List ℕ)
@@ -19,8 +18,3 @@ folders list program Quoted from = from ∷ list.quote ++ angled_folders list pr
 unfoldable pub candidates : SearchList → List (List ℕ) → Form → List ℕ → List ℕ → List (List ℕ)
 candidates list program form from name =
     if is_absolute name then normal name ∷ [] else map (λ folder. join folder name) (folders list program form from)
-
--- one list after another
-abbrev pub chained : List (Bor (List (List ℕ))) → List (List ℕ)
-chained [] = []
-chained (list ∷ lists) = list.now ++ chained lists
