@@ -1,0 +1,4 @@
+pub mod TableLemmas
+pub mod Utf8Lemmas
+pub mod QuotedLemmas
+pub mod RawLemmas
