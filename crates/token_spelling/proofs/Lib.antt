@@ -2,3 +2,4 @@ pub mod TableLemmas
 pub mod Utf8Lemmas
 pub mod QuotedLemmas
 pub mod RawLemmas
+pub mod JoiningLemmas
