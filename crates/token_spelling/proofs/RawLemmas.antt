@@ -6,7 +6,7 @@ use Rattle.std.specs.Option.{option_map_or}
 use Rattle.std.specs.List.{list_all, starts_with}
 use lib.Pointwise.{pointwise}
 use Rattle.scan_model.specs.Spelling.{is_blank, delimiter, is_delimited, after_word, after_raw, encoding_len, opens_raw, is_suffix, is_raw}
-use Rattle.token_spelling.specs.Delimiters.{Divides}
+use Rattle.token_spelling.specs.Delimiters.{IsOpened, Divides}
 
 -- ## Delimiters
 
@@ -165,23 +165,31 @@ word_end w t i le = at_drop_all (after_word w) t i le
 
 -- ## Whole spellings
 
-raw_is : (n : ℕ) (s : List ℕ) → n ≡ encoding_len s
-    → is_raw s ≡ (slice_index s n == 82 && slice_index s (n + 1) == 34 && is_delimited (drop (n + 2) s) && option_map_or is_suffix (after_raw (drop (n + 2) s)) false)
+pub not_opened : (n : ℕ) (s : List ℕ) → n ≡ encoding_len s → (slice_index s n == 82 && slice_index s (n + 1) == 34) ≡ false → opens_raw s ≡ false
+not_opened n s e h = ap (λ k. slice_index s k == 82 && slice_index s (k + 1) == 34) (sym e) ∙ h
+
+pub opened : (n : ℕ) (s behind : List ℕ) → n ≡ encoding_len s → (slice_index s n == 82 && slice_index s (n + 1) == 34) ≡ true → behind ≡ drop (n + 2) s → IsOpened s behind
+opened n s behind e h is_behind = record {
+  opens = ap (λ k. slice_index s k == 82 && slice_index s (k + 1) == 34) (sym e) ∙ h;
+  is_behind = is_behind ∙ ap (λ k. drop (k + 2) s) e;
+}
+
+pub not_raw : (s : List ℕ) → opens_raw s ≡ false → is_raw s ≡ false
 unfolding is_raw
-raw_is n s e = ap (λ k. slice_index s k == 82 && slice_index s (k + 1) == 34 && is_delimited (drop (k + 2) s) && option_map_or is_suffix (after_raw (drop (k + 2) s)) false) (sym e)
+not_raw s h = rw h refl
 
-pub not_raw : (n : ℕ) (s : List ℕ) → n ≡ encoding_len s → (slice_index s n == 82 && slice_index s (n + 1) == 34) ≡ false → is_raw s ≡ false
-not_raw n s e h = raw_is n s e ∙ ap (λ b. b && is_delimited (drop (n + 2) s) && option_map_or is_suffix (after_raw (drop (n + 2) s)) false) h
+raw_is : (s behind : List ℕ) → IsOpened s behind → is_raw s ≡ (is_delimited behind && option_map_or is_suffix (after_raw behind) false)
+unfolding is_raw
+raw_is s behind h = ap (λ b. b && is_delimited (drop (encoding_len s + 2) s) && option_map_or is_suffix (after_raw (drop (encoding_len s + 2) s)) false) h.opens
+    ∙ ap (λ r. is_delimited r && option_map_or is_suffix (after_raw r) false) (sym h.is_behind)
 
-pub not_delimited : (n : ℕ) (s : List ℕ) → n ≡ encoding_len s → (slice_index s n == 82 && slice_index s (n + 1) == 34) ≡ true → is_delimited (drop (n + 2) s) ≡ false → is_raw s ≡ false
-not_delimited n s e h none = raw_is n s e ∙ rw (h, none) refl
+pub not_delimited : (s behind : List ℕ) → IsOpened s behind → is_delimited behind ≡ false → is_raw s ≡ false
+not_delimited s behind h none = raw_is s behind h ∙ ap (λ b. b && option_map_or is_suffix (after_raw behind) false) none
 
-pub raw_by : (n : ℕ) (s d inside : List ℕ) (after : Option (List ℕ)) → n ≡ encoding_len s → (slice_index s n == 82 && slice_index s (n + 1) == 34) ≡ true
-    → Divides (drop (n + 2) s) d inside → after ≡ after_word (41 ∷ d ++ 34 ∷ []) inside → is_raw s ≡ option_map_or is_suffix after false
+pub raw_by : (s behind d inside : List ℕ) (after : Option (List ℕ)) → IsOpened s behind → Divides behind d inside → after ≡ after_word (41 ∷ d ++ 34 ∷ []) inside
+    → is_raw s ≡ option_map_or is_suffix after false
 unfolding after_raw
-raw_by n s d inside after e h divided f =
-    let r = drop (n + 2) s in
-    let same : after_raw r ≡ after =
-    sym (f ∙ ap (after_word (41 ∷ d ++ 34 ∷ [])) divided.is_inside ∙ ap (λ d. after_word (41 ∷ d ++ 34 ∷ []) (drop (length d + 1) r)) divided.is_delimiter) in
-    raw_is n s e ∙ ap (λ b. b && is_delimited r && option_map_or is_suffix (after_raw r) false) h
-    ∙ ap (λ b. b && option_map_or is_suffix (after_raw r) false) divided.good ∙ ap (λ a. option_map_or is_suffix a false) same
+raw_by s behind d inside after h divided f =
+    let same : after_raw behind ≡ after =
+    sym (f ∙ ap (after_word (41 ∷ d ++ 34 ∷ [])) divided.is_inside ∙ ap (λ d. after_word (41 ∷ d ++ 34 ∷ []) (drop (length d + 1) behind)) divided.is_delimiter) in
+    raw_is s behind h ∙ ap (λ b. b && option_map_or is_suffix (after_raw behind) false) divided.good ∙ ap (λ a. option_map_or is_suffix a false) same

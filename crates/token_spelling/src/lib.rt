@@ -19,3 +19,6 @@ pub use names::is_ident;
 pub use numbers::is_number;
 pub use punctuators::is_punct;
 pub use quoted::{is_char, is_str};
+
+#[cfg(test)]
+mod tests;

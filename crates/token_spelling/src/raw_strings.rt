@@ -1,8 +1,8 @@
 ghost use Rattle.std.specs.Prelude.{◌≡◌, ◌+◌, ◌≤◌, ◌++◌, [], ◌∷◌, ◌==◌, ◌||◌, false, nat_eq, not, length, IsTrue, MatchOption};
 ghost use Rattle.std.specs.Option.{option_copied};
 ghost use Rattle.std.specs.List.{starts_with};
-ghost use Rattle.scan_model.specs.Spelling.{is_blank, is_delimited, after_word, is_raw};
-ghost use Rattle.token_spelling.specs.Delimiters.{Divides};
+ghost use Rattle.scan_model.specs.Spelling.{is_blank, opens_raw, is_delimited, after_word, is_raw};
+ghost use Rattle.token_spelling.specs.Delimiters.{IsOpened, Divides};
 
 use crate::literal_parts::{encoding_len, is_suffix, stands_at};
 
@@ -65,22 +65,32 @@ fn after_close<'a>(text: &'a [u8], delimiter: &[u8]) -> Option<&'a [u8]>
     None
 }
 
+// What follows the prefix, if there is one, and `R"`. None exactly where they don't begin the spelling.
+fn after_opening(spelling: &[u8]) -> Option<&[u8]>
+    ensures { MatchOption result (opens_raw spelling.now ≡ false) (λ r. IsOpened spelling.now r.now) }
+{
+    let prefix = encoding_len(spelling);
+    let opens = stands_at(spelling, prefix, b'R') & stands_at(spelling, prefix + 1, b'"');
+    if !opens {
+        return None;
+    }
+    Some(&spelling[prefix + 2..])
+}
+
 // Whether the spelling is a raw string ([lex.string]): a prefix `u8`, `u`, `U` or `L` or none, `R"`, a delimiter of at
 // most 16 bytes, none of them white space, a newline, `(`, `)` or a backslash, `(`, bytes, `)`, the delimiter again and
 // `"` where they stand first, and an identifier as suffix or none.
 pub fn is_raw(spelling: &[u8]) -> bool
     ensures { result ≡ is_raw spelling.now }
 {
-    let prefix = encoding_len(spelling);
-    let opens = stands_at(spelling, prefix, b'R') & stands_at(spelling, prefix + 1, b'"');
-    if !opens {
+    let Some(opened) = after_opening(spelling) else {
         return false;
-    }
-    match divide(&spelling[prefix + 2..]) {
-        Some(raw) => match after_close(raw.inside, raw.delimiter) {
-            Some(suffix) => is_suffix(suffix),
-            None => false,
-        },
+    };
+    let Some(divided) = divide(opened) else {
+        return false;
+    };
+    match after_close(divided.inside, divided.delimiter) {
+        Some(suffix) => is_suffix(suffix),
         None => false,
     }
 }

@@ -1,30 +1,21 @@
-use Rattle.std.proofs.Common.{◌≡◌, ◌∙◌, ◌+◌, ◌==◌, ◌&&◌, ◌++◌, ◌∷◌, [], ap, sym, subst, true, slice_index, drop, Bool, Some, None}
-use Rattle.std.proofs.lemmas.List.{take_rest}
+use Rattle.std.proofs.Common.{◌∙◌, ap, sym, Some, None}
 use Rattle.std.specs.Option.{option_copied}
-use Rattle.scan_model.specs.Spelling.{is_delimited}
-use Rattle.token_spelling.specs.Delimiters.{Divides}
 use Rattle.token_spelling.proofs.RawLemmas.{not_raw, not_delimited, raw_by}
 use Rattle.token_spelling.proofs.raw_strings.is_raw.Goals as goal
 
-pub returns-then-not-opens : goal.returns-then-not-opens
-returns-then-not-opens c = let s = c.args.spelling.now in let n = c.encoding_len-prefix.result in
-    sym (not_raw n s c.encoding_len-prefix.ensures (sym (ap (λ b. b && c.stands_at-2.result) c.stands_at.ensures.value ∙ ap (λ b. slice_index s n == 82 && b) c.stands_at-2.ensures.value) ∙ c.if-not-opens.true))
+pub returns-in_default : goal.returns-in_default
+returns-in_default c = sym (not_raw c.args.spelling.now c.in_default.ensures)
+
+pub returns-in_default-divide : goal.returns-in_default-divide
+returns-in_default-divide c = sym (not_delimited c.args.spelling.now c.in-Some.opened.now c.in-Some.ensures c.in_default-divide.ensures)
 
 pub returns-in-Some-after_close : goal.returns-in-Some-after_close
-returns-in-Some-after_close c = let s = c.args.spelling.now in let n = c.encoding_len-prefix.result in let d = c.in-Some.raw.delimiter.now in let inside = c.in-Some.raw.inside.now in
+returns-in-Some-after_close c = let d = c.in-Some-divide.divided in
     c.is_suffix.ensures
-    ∙ sym (raw_by n s d inside (Some c.in-Some-after_close.suffix.now) c.encoding_len-prefix.ensures
-    (sym (ap (λ b. b && c.stands_at-2.result) c.stands_at.ensures.value ∙ ap (λ b. slice_index s n == 82 && b) c.stands_at-2.ensures.value) ∙ c.if-not-opens.false)
-    (subst (λ r. Divides r d inside) (take_rest s (n + 2)) c.in-Some.ensures) (ap option_copied (sym c.in-Some-after_close.is) ∙ c.after_close.ensures))
-
-pub returns-in-None-after_close : goal.returns-in-None-after_close
-returns-in-None-after_close c = let s = c.args.spelling.now in let n = c.encoding_len-prefix.result in let d = c.in-Some.raw.delimiter.now in let inside = c.in-Some.raw.inside.now in
-    sym (raw_by n s d inside None c.encoding_len-prefix.ensures
-    (sym (ap (λ b. b && c.stands_at-2.result) c.stands_at.ensures.value ∙ ap (λ b. slice_index s n == 82 && b) c.stands_at-2.ensures.value) ∙ c.if-not-opens.false)
-    (subst (λ r. Divides r d inside) (take_rest s (n + 2)) c.in-Some.ensures) (ap option_copied (sym c.in-None-after_close.is) ∙ c.after_close.ensures))
+    ∙ sym (raw_by c.args.spelling.now c.in-Some.opened.now d.delimiter.now d.inside.now (Some c.in-Some-after_close.suffix.now) c.in-Some.ensures c.in-Some-divide.ensures
+    (ap option_copied (sym c.in-Some-after_close.is) ∙ c.after_close.ensures))
 
 pub returns-in-None : goal.returns-in-None
-returns-in-None c = let s = c.args.spelling.now in let n = c.encoding_len-prefix.result in
-    sym (not_delimited n s c.encoding_len-prefix.ensures
-    (sym (ap (λ b. b && c.stands_at-2.result) c.stands_at.ensures.value ∙ ap (λ b. slice_index s n == 82 && b) c.stands_at-2.ensures.value) ∙ c.if-not-opens.false)
-    (sym (ap is_delimited (take_rest s (n + 2))) ∙ c.in-None.ensures))
+returns-in-None c = let d = c.in-Some-divide.divided in
+    sym (raw_by c.args.spelling.now c.in-Some.opened.now d.delimiter.now d.inside.now None c.in-Some.ensures c.in-Some-divide.ensures
+    (ap option_copied (sym c.in-None.is) ∙ c.after_close.ensures))
