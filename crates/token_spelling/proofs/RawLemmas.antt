@@ -1,10 +1,9 @@
 -- Raw strings: the delimiter, and where the string closes.
-use Rattle.std.proofs.Common.{◌≡◌, ℕ, suc, ◌+◌, ◌-◌, ◌<◌, ◌≤◌, Bool, true, false, not, cond, ◌==◌, ◌&&◌, ◌||◌, List, [], ◌∷◌, ◌++◌, refl, ap, sym, ◌∙◌, inl, inr, take, drop, length, get_or, slice_index, arith, Option, Some, None, nat_eq, nat_le, nat_lt, add-one}
+use Rattle.std.proofs.Common.{◌≡◌, ℕ, suc, ◌+◌, ◌-◌, ◌<◌, ◌≤◌, Bool, true, false, not, cond, ◌==◌, ◌&&◌, ◌||◌, List, [], ◌∷◌, ◌++◌, refl, ap, sym, ◌∙◌, inl, inr, take, drop, length, get_or, slice_index, arith, Option, Some, None, nat_eq, nat_le, nat_lt}
 use Rattle.std.proofs.lemmas.Bool.{and_left, and_right, and_from, eq-eqb, ne_eqb, cases_eq, cases_lt, lt-ltb, le-ltb, le-leb, lt-leb, or_cases, or_parts, not-true, not-false, eqb-true, eqb-false}
 use Rattle.std.proofs.lemmas.List.{at_drop_more, at_drop_all, take_more, append_assoc, append-nil, length-append, length-take-le}
 use Rattle.std.specs.Option.{option_map_or}
 use Rattle.std.specs.List.{list_all, starts_with}
-use lib.Pointwise.{pointwise}
 use Rattle.scan_model.specs.Spelling.{is_blank, delimiter, is_delimited, after_word, after_raw, encoding_len, opens_raw, is_suffix, is_raw}
 use Rattle.token_spelling.specs.Delimiters.{IsOpened, Divides}
 

@@ -52,7 +52,8 @@ fn are_number(text: &str) -> bool
 {
     match split_first(text) {
         Some((character, after)) => {
-            let begins = character.is_ascii_digit() | ((character == '.') & first(after).is_ascii_digit());
+            let begins = character.is_ascii_digit()
+                | ((character == '.') & first(after).is_ascii_digit());
             begins && go_on(character, after)
         }
         None => false,

@@ -18,7 +18,11 @@ struct Divided<'a> {
 fn may_delimit(byte: u8) -> bool
     ensures { result ≡ not (is_blank byte || byte == 10 || byte == 41 || byte == 92) }
 {
-    let is_blank = (byte == b' ') | (byte == b'\t') | (byte == 0x0B) | (byte == 0x0C) | (byte == b'\r');
+    let is_blank = (byte == b' ')
+        | (byte == b'\t')
+        | (byte == 0x0B)
+        | (byte == 0x0C)
+        | (byte == b'\r');
     !(is_blank | (byte == b'\n') | (byte == b')') | (byte == b'\\'))
 }
 

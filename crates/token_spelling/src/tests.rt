@@ -104,7 +104,10 @@ fn literals_have_their_kinds(rt: HostRuntime) -> Result<(), Fail> {
     assert_eq!(rt; kind_of(b"R\"(a\nb)\""), Some(Str));
     assert_eq!(rt; kind_of(b"R\"(a)b)\""), Some(Str));
     assert_eq!(rt; kind_of(b"R\"(a)\"b)\""), None);
-    assert_eq!(rt; kind_of(b"LR\"0123456789abcdef()0123456789abcdef\"_s"), Some(Str));
+    assert_eq!(rt;
+        kind_of(b"LR\"0123456789abcdef()0123456789abcdef\"_s"),
+        Some(Str)
+    );
     assert_eq!(rt; kind_of(b"R\"0123456789abcdefg()0123456789abcdefg\""), None);
     Ok(())
 }

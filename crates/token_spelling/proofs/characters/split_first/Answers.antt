@@ -1,5 +1,5 @@
 use Rattle.std.proofs.Common.{◌∙◌, ◌∷◌, ap, sym, length}
-use Rattle.std.proofs.lemmas.Str.{chars_past_char, chars-nil}
+use Rattle.std.proofs.lemmas.Str.{chars_past_char}
 use Rattle.std.specs.Str.{chars}
 use Rattle.token_spelling.proofs.Utf8Lemmas.{no_chars}
 use Rattle.token_spelling.proofs.characters.split_first.Goals as goal

@@ -1,4 +1,4 @@
-use Rattle.std.proofs.Common.{◌≡◌, ◌∙◌, ◌++◌, ap, sym, cond, Some, None}
+use Rattle.std.proofs.Common.{◌∙◌, ◌++◌, ap, sym, cond, Some, None}
 use Rattle.scan_model.specs.Tokens.{kind_of}
 use Rattle.scan_model.specs.Paste.{is_one_token}
 use Rattle.token_spelling.proofs.JoiningLemmas.{paste_some, paste_none}

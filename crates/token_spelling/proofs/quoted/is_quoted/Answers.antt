@@ -1,4 +1,4 @@
-use Rattle.std.proofs.Common.{◌≡◌, ◌+◌, ◌∙◌, ap, sym, false, drop, Some, None}
+use Rattle.std.proofs.Common.{◌+◌, ◌∙◌, ap, sym, false, Some, None}
 use Rattle.std.proofs.lemmas.List.{take_rest}
 use Rattle.std.specs.Option.{option_copied}
 use Rattle.scan_model.specs.Spelling.{after_items}

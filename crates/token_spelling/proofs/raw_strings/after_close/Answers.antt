@@ -8,7 +8,7 @@ pub returns-then-closes : goal.returns-then-closes
 returns-then-closes c = let t = c.args.text.now in let i = c.loop-i.i in let close = 41 ∷ c.args.delimiter.now ++ 34 ∷ [] in
     let left : take (length t - i) (drop i t) ≡ drop i t = take_rest t i in
     ap Some (take_rest (take (length t - i) (drop i t)) (length c.args.delimiter.now + 2) ∙ ap (drop (length c.args.delimiter.now + 2)) left
-        ∙ ap (λ n. drop n (drop i t)) (sym (length-close c.args.delimiter.now)))
+    ∙ ap (λ n. drop n (drop i t)) (sym (length-close c.args.delimiter.now)))
     ∙ sym (word_here close t i (omega arith) (ap (λ s. starts_with nat_eq s close) (sym left) ∙ sym c.closes.ensures.value ∙ c.if-closes.true))
     ∙ c.loop-i.invariant
 

@@ -1,6 +1,5 @@
-use Rattle.std.proofs.Common.{◌∙◌, ◌+◌, ◌-◌, ◌==◌, ◌||◌, not, refl, ap, sym, arith}
-use Rattle.std.proofs.lemmas.List.{take_rest}
-use Rattle.token_spelling.proofs.RawLemmas.{within_all, divides, bad_here, good_here, end_here, front_more}
+use Rattle.std.proofs.Common.{◌∙◌, ◌-◌, ◌==◌, ◌||◌, not, refl, ap, sym, arith}
+use Rattle.token_spelling.proofs.RawLemmas.{within_all, good_here, end_here, front_more}
 use Rattle.token_spelling.proofs.raw_strings.divide.Goals as goal
 
 pub loop-i-init : goal.loop-i-init
