@@ -1,0 +1,5 @@
+pub mod ReductionLemmas
+pub mod KeptAnswers
+pub mod GrowthLemmas
+pub mod GrowingAnswers
+pub mod KnownAnswers

@@ -1,0 +1,33 @@
+-- The stream read token by token.
+use Rattle.std.specs.Prelude.{◌≡◌, ◌||◌, Bool, true, false, List, [], ◌∷◌, map, None}
+use Rattle.std.specs.List.{list_any, AllByRecursion}
+use Rattle.scan_model.specs.declared.command.Command.{Command}
+use Rattle.scan_model.specs.Stream.{Piece, Run, Sent, ModuleStop, is_keyword, read_tokens, stream_tokens, read_stream}
+use Rattle.scan_model.specs.declared.unit_end.Fault.{Fault}
+use Rattle.scan_model.specs.declared.token.Kind.{Kind}
+use Rattle.scan_model.specs.declared.token.Kind.TheVariants.{ExportKw, LineEnd}
+use Rattle.scan_model.specs.declared.module_line.Keyword.{Keyword}
+use Rattle.scan_model.specs.KeywordLines.{keyword_kind}
+use Rattle.std.specs.declared.result.Result.{Result}
+use Rattle.std.specs.declared.result.Result.TheVariants.{Ok, Err}
+use Rattle.scan_model.specs.TokenTests.{is_of}
+use Rattle.scan_model.specs.ModuleLines.{Builder, new}
+
+abbrev pub word_kinds : Bool → Keyword → List Kind
+word_kinds true keyword = ExportKw ∷ keyword_kind keyword ∷ []
+word_kinds false keyword = keyword_kind keyword ∷ []
+
+-- read by its tokens the stream gives the same, where no token of a run is a keyword
+abbrev pub HasNoKeyword : Piece → Type 0
+HasNoKeyword (Run path toks) = list_any (λ t. is_keyword t.kind || is_of ExportKw t || is_of LineEnd t) toks ≡ false
+HasNoKeyword (Sent l) =
+    (list_any (λ t. is_keyword t.kind || is_of ExportKw t || is_of LineEnd t) l.toks ≡ false)
+    × (map (λ t. t.kind) l.words ≡ word_kinds l.exported l.keyword) × (map (λ t. t.line) l.words ≡ map (λ t. l.line) l.words)
+
+abbrev pub without_looked : Result Builder ModuleStop → Result Builder Fault
+without_looked (Ok b) = Ok b
+without_looked (Err stop) = Err stop.fault
+
+abbrev pub ReadByTokens : Type 0
+ReadByTokens = (command : Command) (pieces : List Piece) → AllByRecursion HasNoKeyword pieces →
+    read_tokens None (stream_tokens pieces) (new command.output command.source) ≡ without_looked (read_stream command pieces)
