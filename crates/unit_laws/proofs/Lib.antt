@@ -3,3 +3,4 @@ pub mod KeptAnswers
 pub mod GrowthLemmas
 pub mod GrowingAnswers
 pub mod KnownAnswers
+pub mod TurnLemmas

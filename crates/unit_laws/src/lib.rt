@@ -7,6 +7,7 @@
 mod growth;
 mod known_answers;
 mod reduction;
+mod turns;
 
 pub use growth::{a_needed_path_was_looked_at_last, an_end_stays, looked_paths_grow};
 pub use known_answers::{
@@ -19,3 +20,4 @@ pub use reduction::{
     kept_lines_give_the_answer, lines_with_the_same_directives_act_alike,
     reduced_files_give_the_answer, text_changes_the_run_alone,
 };
+pub use turns::further_turns_change_no_expansion;
