@@ -4,3 +4,4 @@ pub mod GrowthLemmas
 pub mod GrowingAnswers
 pub mod KnownAnswers
 pub mod TurnLemmas
+pub mod StreamLemmas

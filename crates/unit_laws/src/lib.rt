@@ -7,6 +7,7 @@
 mod growth;
 mod known_answers;
 mod reduction;
+mod streams;
 mod turns;
 
 pub use growth::{a_needed_path_was_looked_at_last, an_end_stays, looked_paths_grow};
@@ -20,4 +21,5 @@ pub use reduction::{
     kept_lines_give_the_answer, lines_with_the_same_directives_act_alike,
     reduced_files_give_the_answer, text_changes_the_run_alone,
 };
+pub use streams::tokens_give_what_module_lines_give;
 pub use turns::further_turns_change_no_expansion;
