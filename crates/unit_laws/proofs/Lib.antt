@@ -5,3 +5,7 @@ pub mod GrowingAnswers
 pub mod KnownAnswers
 pub mod TurnLemmas
 pub mod StreamLemmas
+pub mod Computing
+pub mod UnitForms
+pub mod WorkedUnits
+pub mod WorkedFiles

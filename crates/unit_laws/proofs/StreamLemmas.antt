@@ -1,22 +1,20 @@
 -- The stream read token by token gives what its module and import lines give.
-use Rattle.std.proofs.Common.{◌≡◌, ℕ, Bool, true, false, ◌||◌, if◌then◌else◌, List, [], ◌∷◌, ◌++◌, map, refl, ap, sym, ◌∙◌, append_assoc}
+use Rattle.std.proofs.Common.{◌≡◌, ℕ, Bool, true, false, ◌||◌, if◌then◌else◌, List, [], ◌∷◌, ◌++◌, map, refl, ap, ◌∙◌}
 use Rattle.std.specs.Prelude.{Option, Some, None}
 use Rattle.std.specs.Option.{option_map_or}
 use Rattle.std.specs.List.{list_any, AllByRecursion}
 use Rattle.std.specs.declared.result.Result.{Result}
 use Rattle.std.specs.declared.result.Result.TheVariants.{Ok, Err}
-use Rattle.scan_model.specs.declared.token.Kind.{Kind}
-use Rattle.scan_model.specs.declared.token.Kind.TheVariants.{ModuleKw, ImportKw, ExportKw, LineEnd}
+use Rattle.scan_model.specs.declared.token.Kind.TheVariants.{ExportKw, LineEnd}
 use Rattle.scan_model.specs.declared.token.Tok.{Tok}
 use Rattle.scan_model.specs.declared.module_line.Keyword.{Keyword}
 use Rattle.scan_model.specs.declared.module_line.Keyword.TheVariants.{Module, Import}
 use Rattle.scan_model.specs.declared.module_line.ModuleFault.{ModuleFault}
 use Rattle.scan_model.specs.declared.unit_end.Fault.{Fault}
-use Rattle.scan_model.specs.declared.unit_end.Place.{Place}
-use Rattle.scan_model.specs.TokenTests.{is_of, kind_number}
+use Rattle.scan_model.specs.TokenTests.{is_of}
 use Rattle.scan_model.specs.ModuleLines.{Builder, take, new}
 use Rattle.scan_model.specs.KeywordLines.{keyword_kind}
-use Rattle.scan_model.specs.Stream.{ModuleLine, ModuleStop, Piece, Run, Sent, module_lines, after_take, take_lines, read_stream, at_path, piece_tokens, stream_tokens, is_keyword, keyword_of_kind, to_line_end, place_at, after_tokens, read_tokens, fault_kind}
+use Rattle.scan_model.specs.Stream.{ModuleLine, Piece, Run, Sent, module_lines, after_take, take_lines, read_stream, at_path, piece_tokens, stream_tokens, is_keyword, keyword_of_kind, to_line_end, place_at, after_tokens, read_tokens}
 use Rattle.unit_laws.specs.Streams.{word_kinds, HasNoKeyword, without_looked, ReadByTokens}
 
 abbrev Answers : Type 0
@@ -63,12 +61,16 @@ first_of_two : (b : Bool) (x y : Answers) → b ≡ true → (if b then x else y
 first_of_two true x y h = refl
 first_of_two false x y h = absurd (cc)
 
+one_passed : (q : Option (List ℕ × Tok)) (p : List ℕ × Tok) (rest : List (List ℕ × Tok)) (b : Builder) → is_keyword p.1.kind ≡ false →
+    read_tokens q (p ∷ rest) b ≡ read_tokens (Some p) rest b
+one_passed q p rest b h = one_of_two (is_keyword p.1.kind) _ (read_tokens (Some p) rest b) h
+
 -- such tokens are passed over
 passed : (path : List ℕ) (toks : List Tok) (rest : List (List ℕ × Tok)) (q : Option (List ℕ × Tok)) (b : Builder) (answer : Answers) → Silent toks → Unexported q →
     ((before : Option (List ℕ × Tok)) → Unexported before → read_tokens before rest b ≡ answer) → read_tokens q (at_path path toks ++ rest) b ≡ answer
 passed path [] rest q b answer h u goes = goes q u
 passed path (t ∷ toks) rest q b answer h u goes =
-    one_of_two (is_keyword t.kind) _ _ h.0.0 ∙ passed path toks rest (Some (path, t)) b answer h.1 h.0.1 goes
+    one_passed q (path, t) (at_path path toks ++ rest) b h.0.0 ∙ passed path toks rest (Some (path, t)) b answer h.1 h.0.1 goes
 
 -- ## One module or import line
 
@@ -120,10 +122,10 @@ keyword_read l w q rest ls b silent unended reads exported kind place =
     ∙ ap (λ k. after_tokens further (record { path = l.path; line = l.line }) (take b l.exported k (to_line_end (after_word l rest)))) (ap keyword_of_kind kind ∙ kind_back l.keyword)
     ∙ ap (λ ts. after_tokens further (record { path = l.path; line = l.line }) (take b l.exported l.keyword ts)) (line_of l.path l.toks l.line rest unended)
     ∙ taken_alike further l ls (take b l.exported l.keyword l.toks)
-      (λ b. passed l.path (l.toks ++ record { kind = LineEnd; text = []; space = false; line = l.line } ∷ []) rest (Some (l.path, w)) b _ (silent_and_end l.toks l.line silent)
-      (kind_unexported l.keyword w kind) (λ before u. reads before u b)) where
-  further : Builder → Answers
-  further = read_tokens (Some (l.path, w)) (after_word l rest)
+    (λ b. passed l.path (l.toks ++ record { kind = LineEnd; text = []; space = false; line = l.line } ∷ []) rest (Some (l.path, w)) b _ (silent_and_end l.toks l.line silent)
+    (kind_unexported l.keyword w kind) (λ before u. reads before u b)) where
+      further : Builder → Answers
+      further = read_tokens (Some (l.path, w)) (after_word l rest)
 
 -- the whole line, whose words are these
 words_read : (path : List ℕ) (line : ℕ) (exported : Bool) (keyword : Keyword) (words toks : List Tok) (looked : List (List ℕ))
@@ -143,7 +145,7 @@ words_read path line true keyword (x ∷ w ∷ []) toks looked rest ls q b silen
     let is_export : is_of ExportKw x ≡ true = rw first refl in
     let place : (if is_of ExportKw x then place_at (path, x) else place_at (path, w)) ≡ record { path = path; line = line } = rw is_export (ap (λ n. record { path = path; line = n }) at) in
     let no_keyword : is_keyword x.kind ≡ false = rw first refl in
-    one_of_two (is_keyword x.kind) _ (read_tokens (Some (path, x)) ((path, w) ∷ after_word l rest) b) no_keyword
+    one_passed q (path, x) ((path, w) ∷ after_word l rest) b no_keyword
     ∙ keyword_read l w (Some (path, x)) rest ls b silent unended reads is_export second place
 words_read path line false keyword [] toks looked rest ls q b silent unended kinds lines reads u = absurd (cc)
 words_read path line false keyword (x ∷ w ∷ words) toks looked rest ls q b silent unended kinds lines reads u = absurd (cc)
@@ -152,7 +154,7 @@ words_read path line false keyword (w ∷ []) toks looked rest ls q b silent une
     let at : w.line ≡ line = cc in
     let l : ModuleLine = record { path = path; line = line; exported = false; keyword = keyword; words = w ∷ []; toks = toks; looked = looked } in
     let place : (if is_exported q then option_map_or place_at q (place_at (path, w)) else place_at (path, w)) ≡ record { path = path; line = line } =
-        rw u (ap (λ n. record { path = path; line = n }) at) in
+    rw u (ap (λ n. record { path = path; line = n }) at) in
     keyword_read l w q rest ls b silent unended reads u second place
 
 -- ## The stream

@@ -1,13 +1,13 @@
 -- An expansion has turns enough: more of them give the same.
-use Rattle.std.proofs.Common.{◌≡◌, ℕ, zero, suc, ◌+◌, ◌-◌, ◌<◌, ◌≤◌, nat_lt, Bool, true, false, not, ◌&&◌, if◌then◌else◌, List, [], ◌∷◌, ◌++◌, map, length, refl, ap, sym, ◌∙◌, arith}
-use Rattle.std.specs.Prelude.{⊤, Option, Some, None, ◌==◌, codes, is_some}
+use Rattle.std.proofs.Common.{◌≡◌, ℕ, zero, suc, ◌+◌, ◌-◌, ◌<◌, ◌≤◌, nat_lt, Bool, true, false, not, ◌&&◌, if◌then◌else◌, List, [], ◌∷◌, ◌++◌, map, length, refl, ap, ◌∙◌, arith}
+use Rattle.std.specs.Prelude.{⊤, Option, Some, None, ◌==◌, is_some}
 use Rattle.std.specs.List.{onto_first, AllByRecursion}
 use Rattle.std.specs.Option.{option_map}
 use Rattle.std.specs.Fmt.{decimal}
 use Rattle.std.proofs.lemmas.Bool.{ltb-false}
 use Rattle.std.proofs.lemmas.List.{length-append, length-map}
 use Rattle.scan_model.specs.declared.token.Kind.{Kind}
-use Rattle.scan_model.specs.declared.token.Kind.TheVariants.{Ident, Number, Str}
+use Rattle.scan_model.specs.declared.token.Kind.TheVariants.{Ident, Number}
 use Rattle.scan_model.specs.declared.macros.FunctionDef.{FunctionDef}
 use Rattle.scan_model.specs.declared.macros.Def.{Def}
 use Rattle.scan_model.specs.declared.macros.Def.TheVariants as DefIs
@@ -187,9 +187,9 @@ parens_fit : (ms : List Marked) → Encloses (length ms) (in_parens (λ m. m.tok
 parens_fit [] = tt
 parens_fit (m ∷ ms) = encloses_if (is_open_paren m.tok) (suc (length ms)) (enclosed (λ m. m.tok) 0 ms) None
     (encloses_more (length ms) (enclosed (λ m. m.tok) 0 ms) (enclosed_fits 0 ms)) tt where
-  encloses_more : (n : ℕ) (p : Option (Enclosed Marked)) → Encloses n p → Encloses (suc n) p
-  encloses_more n None h = tt
-  encloses_more n (Some p) h = omega arith
+      encloses_more : (n : ℕ) (p : Option (Enclosed Marked)) → Encloses n p → Encloses (suc n) p
+      encloses_more n None h = tt
+      encloses_more n (Some p) h = omega arith
 
 -- no argument is longer than n
 abbrev Short : ℕ → List (List Marked) → Type 0
