@@ -9,3 +9,7 @@ pub mod Computing
 pub mod UnitForms
 pub mod WorkedUnits
 pub mod WorkedFiles
+pub mod PlainText
+pub mod Parts
+pub mod PlainMacros
+pub mod PlainExpansion

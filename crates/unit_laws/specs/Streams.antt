@@ -1,5 +1,5 @@
 -- The stream read token by token.
-use Rattle.std.specs.Prelude.{◌≡◌, ◌||◌, Bool, true, false, List, [], ◌∷◌, map, None}
+use Rattle.std.specs.Prelude.{◌≡◌, ◌||◌, ◌==◌, Bool, true, false, List, [], ◌∷◌, map, None}
 use Rattle.std.specs.List.{list_any, AllByRecursion}
 use Rattle.scan_model.specs.declared.command.Command.{Command}
 use Rattle.scan_model.specs.Stream.{Piece, Run, Sent, ModuleStop, is_keyword, read_tokens, stream_tokens, read_stream}
@@ -10,18 +10,22 @@ use Rattle.scan_model.specs.declared.module_line.Keyword.{Keyword}
 use Rattle.scan_model.specs.KeywordLines.{keyword_kind}
 use Rattle.std.specs.declared.result.Result.{Result}
 use Rattle.std.specs.declared.result.Result.TheVariants.{Ok, Err}
-use Rattle.scan_model.specs.TokenTests.{is_of}
+use Rattle.scan_model.specs.TokenTests.{kind_number}
 use Rattle.scan_model.specs.ModuleLines.{Builder, new}
 
 abbrev pub word_kinds : Bool → Keyword → List Kind
 word_kinds true keyword = ExportKw ∷ keyword_kind keyword ∷ []
 word_kinds false keyword = keyword_kind keyword ∷ []
 
+-- a keyword of a module or import line, the `export` before one, or a line's end
+abbrev pub is_mark : Kind → Bool
+is_mark kind = is_keyword kind || kind_number kind == kind_number ExportKw || kind_number kind == kind_number LineEnd
+
 -- read by its tokens the stream gives the same, where no token of a run is a keyword
 abbrev pub HasNoKeyword : Piece → Type 0
-HasNoKeyword (Run path toks) = list_any (λ t. is_keyword t.kind || is_of ExportKw t || is_of LineEnd t) toks ≡ false
+HasNoKeyword (Run path toks) = list_any (λ t. is_mark t.kind) toks ≡ false
 HasNoKeyword (Sent l) =
-    (list_any (λ t. is_keyword t.kind || is_of ExportKw t || is_of LineEnd t) l.toks ≡ false)
+    (list_any (λ t. is_mark t.kind) l.toks ≡ false)
     × (map (λ t. t.kind) l.words ≡ word_kinds l.exported l.keyword) × (map (λ t. t.line) l.words ≡ map (λ t. l.line) l.words)
 
 abbrev pub without_looked : Result Builder ModuleStop → Result Builder Fault
