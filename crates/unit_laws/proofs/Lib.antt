@@ -13,3 +13,5 @@ pub mod PlainText
 pub mod Parts
 pub mod PlainMacros
 pub mod PlainExpansion
+pub mod PlainEffects
+pub mod PlainStreams

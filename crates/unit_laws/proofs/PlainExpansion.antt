@@ -1,5 +1,5 @@
 -- What an expansion gives has no keyword of the stream, where neither its tokens nor its macros have one.
-use Rattle.std.proofs.Common.{◌≡◌, ℕ, zero, suc, ◌+◌, nat_lt, Bool, true, false, not, ◌&&◌, ◌==◌, if◌then◌else◌, List, [], ◌∷◌, ◌++◌, map, length, refl, Option, Some, None, codes}
+use Rattle.std.proofs.Common.{ℕ, zero, suc, ◌+◌, nat_lt, Bool, true, false, not, ◌&&◌, ◌==◌, if◌then◌else◌, List, [], ◌∷◌, ◌++◌, map, length, refl, Option, Some, None, codes}
 use Rattle.std.specs.Prelude.{⊤, is_some}
 use Rattle.std.specs.List.{onto_first, AllByRecursion}
 use Rattle.std.specs.Fmt.{decimal}
@@ -23,7 +23,7 @@ use Rattle.scan_model.specs.Substitution.{Marked, no_name, Arg, Call, subst, is_
 use Rattle.scan_model.specs.Expansion.{Scope, cost_limit, expand_up_to, Ran, Went, Failed, Replaced, Args, NotReplaced, cut_at_commas, exactly, plain_args, variadic_args, written_args, arg_named, paid, out, in_condition, in_text, instead, also, hidden_by, rescanned, built_in_out, built_in, with_arg, after_arg, replaced_args, called, call_with, call, is_called, by_def, defined_name, defined_out, first_and_rest, first_counter, answer_of, expand}
 use Rattle.unit_laws.proofs.PlainText.{IsPlain}
 use Rattle.unit_laws.proofs.Parts.{OnSome, some_if, all_append, all_map, all_if, InAndAfter, all_in_parens}
-use Rattle.unit_laws.proofs.PlainMacros.{PlainTok, PlainToks, PlainMarked, PlainDef, PlainArg, PlainCall, subst_plain}
+use Rattle.unit_laws.proofs.PlainMacros.{PlainTok, PlainToks, PlainMarked, PlainDef, PlainArg, subst_plain}
 
 abbrev PlainOne : Marked → Type 0
 PlainOne m = IsPlain m.tok.kind

@@ -1,16 +1,16 @@
 -- The lines of a text have no keyword of the stream, and each token has its line's number.
-use Rattle.std.proofs.Common.{◌≡◌, ℕ, zero, suc, ◌+◌, ◌-◌, Bool, true, false, ◌||◌, ◌&&◌, ◌==◌, nat_lt, if◌then◌else◌, List, [], ◌∷◌, ◌++◌, take, drop, length, refl, ap, sym, ◌∙◌, add-one, Option, Some, None}
+use Rattle.std.proofs.Common.{◌≡◌, ℕ, zero, suc, ◌+◌, Bool, true, false, ◌&&◌, ◌==◌, nat_lt, if◌then◌else◌, List, [], ◌∷◌, ◌++◌, take, drop, length, refl, add-one, Option, Some, None}
 use Rattle.std.specs.Prelude.{⊤}
 use Rattle.std.specs.Option.{option_map_or}
 use Rattle.std.specs.List.{AllByRecursion}
 use Rattle.scan_model.specs.declared.token.Kind.{Kind}
-use Rattle.scan_model.specs.declared.token.Kind.TheVariants.{Ident, Number, Char, Str, Header, Punct, Stray, ExportKw, LineEnd}
+use Rattle.scan_model.specs.declared.token.Kind.TheVariants.{Ident, Number, Char, Str, Header, Punct, Stray}
 use Rattle.scan_model.specs.declared.token.Tok.{Tok}
 use Rattle.scan_model.specs.declared.token.Line.{Line}
 use Rattle.scan_model.specs.Spliced.{Spot, shown, spliced, line_at}
-use Rattle.scan_model.specs.Spelling.{is_ident, is_number, is_char, is_punct, is_header, is_suffix, encoding_len, opens_raw, is_delimited, after_raw, longest}
-use Rattle.scan_model.specs.Tokens.{Lexeme, bytes, next_blank, after_blanks, cut, wants_header, is_token, kind_of, is_character, rest_of_line, is_open, is_lone_less, from_place, written_after, raw, raw_closed, raw_lexeme, lexeme, token_at, next_token}
-use Rattle.scan_model.specs.Lines.{line_of, tok, closed, lines_up_to, lines_from, lines}
+use Rattle.scan_model.specs.Spelling.{is_ident, is_number, is_char, is_punct, is_header, encoding_len, opens_raw, is_delimited, after_raw, longest}
+use Rattle.scan_model.specs.Tokens.{Lexeme, bytes, next_blank, after_blanks, cut, wants_header, is_token, kind_of, is_character, rest_of_line, is_open, is_lone_less, written_after, raw_closed, raw_lexeme, lexeme, token_at, next_token}
+use Rattle.scan_model.specs.Lines.{tok, closed, lines_up_to, lines_from, lines}
 use Rattle.unit_laws.specs.Streams.{is_mark}
 
 -- ## Kinds

@@ -1,5 +1,5 @@
 -- The stream read token by token.
-use Rattle.std.specs.Prelude.{◌≡◌, ◌||◌, ◌==◌, Bool, true, false, List, [], ◌∷◌, map, None}
+use Rattle.std.specs.Prelude.{◌≡◌, ℕ, ◌||◌, ◌==◌, Bool, true, false, List, [], ◌∷◌, map, None}
 use Rattle.std.specs.List.{list_any, AllByRecursion}
 use Rattle.scan_model.specs.declared.command.Command.{Command}
 use Rattle.scan_model.specs.Stream.{Piece, Run, Sent, ModuleStop, is_keyword, read_tokens, stream_tokens, read_stream}
@@ -12,6 +12,10 @@ use Rattle.std.specs.declared.result.Result.{Result}
 use Rattle.std.specs.declared.result.Result.TheVariants.{Ok, Err}
 use Rattle.scan_model.specs.TokenTests.{kind_number}
 use Rattle.scan_model.specs.ModuleLines.{Builder, new}
+use Rattle.scan_model.specs.Lines.{lines}
+use Rattle.scan_model.specs.Files.{FileMap}
+use Rattle.scan_model.specs.State.{Setup, Reached, Going, Stopped}
+use Rattle.scan_model.specs.WholeUnit.{full}
 
 abbrev pub word_kinds : Bool → Keyword → List Kind
 word_kinds true keyword = ExportKw ∷ keyword_kind keyword ∷ []
@@ -35,3 +39,18 @@ without_looked (Err stop) = Err stop.fault
 abbrev pub ReadByTokens : Type 0
 ReadByTokens = (command : Command) (pieces : List Piece) → AllByRecursion HasNoKeyword pieces →
     read_tokens None (stream_tokens pieces) (new command.output command.source) ≡ without_looked (read_stream command pieces)
+
+-- ## Units, whose streams have keywords in their module and import lines alone
+
+abbrev pub stream_of : Reached → List Piece
+stream_of (Going s) = s.stream
+stream_of (Stopped stop) = stop.stream
+
+abbrev pub UnitsAreMarked : Type 0
+UnitsAreMarked = (files : FileMap (List ℕ)) (setup : Setup) → AllByRecursion HasNoKeyword (stream_of (full lines files setup))
+
+-- so the stream of a unit, read token by token, gives what its module and import lines give
+abbrev pub UnitsReadByTokens : Type 0
+UnitsReadByTokens = (files : FileMap (List ℕ)) (setup : Setup) →
+    let pieces = stream_of (full lines files setup) in
+    read_tokens None (stream_tokens pieces) (new setup.command.output setup.command.source) ≡ without_looked (read_stream setup.command pieces)

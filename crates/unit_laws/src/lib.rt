@@ -21,5 +21,8 @@ pub use reduction::{
     kept_lines_give_the_answer, lines_with_the_same_directives_act_alike,
     reduced_files_give_the_answer, text_changes_the_run_alone,
 };
-pub use streams::tokens_give_what_module_lines_give;
+pub use streams::{
+    keywords_stand_in_module_lines_alone, tokens_give_what_module_lines_give,
+    units_read_by_tokens_alike,
+};
 pub use turns::further_turns_change_no_expansion;
