@@ -1,5 +1,5 @@
 -- Units of several files, and of several commands, computed: each theorem is what its name says.
-use Rattle.std.proofs.Common.{◌≡◌, [], ◌∷◌, map, refl, true, codes}
+use Rattle.std.proofs.Common.{◌≡◌, [], ◌∷◌, map, length, refl, true, codes}
 use Rattle.scan_model.specs.declared.unit_end.FaultKind.TheVariants as FaultIs
 use Rattle.unit_laws.proofs.Computing.{running}
 use Rattle.unit_laws.proofs.UnitForms.{files_of, except, lacking, plain, with_folder, with_settings, with_forced, no_settings, ends_by, ends_with, ends, looks_by, looks_with, requiring, providing, stops_at, stops}
@@ -30,6 +30,14 @@ a_file_that_includes_itself_is_too_deep : ends "#include \"u.cpp\"\n" ≡ stops 
 unfolding running
 a_file_that_includes_itself_is_too_deep = refl
 
+a_main_file_is_entered_201_deep : length (looks_with (("/p/u.cpp", "#include \"u.cpp\"\n") ∷ [])) ≡ 202
+unfolding running
+a_main_file_is_entered_201_deep = refl
+
+a_forced_file_begins_one_deep : length (looks_by (files_of (("/p/f.h", "#include \"f.h\"\n") ∷ [])) (with_forced [] ("f.h" ∷ []))) ≡ 201
+unfolding running
+a_forced_file_begins_one_deep = refl
+
 a_file_that_is_read_once_is_not_entered_again : ends "#pragma once\n#include \"u.cpp\"\nimport a;\n" ≡ requiring ("a" ∷ [])
 unfolding running
 a_file_that_is_read_once_is_not_entered_again = refl
@@ -37,6 +45,18 @@ a_file_that_is_read_once_is_not_entered_again = refl
 text_before_an_include_changes_nothing : ends "#pragma once\nint x;\n#include \"u.cpp\"\nimport a;\n" ≡ requiring ("a" ∷ [])
 unfolding running
 text_before_an_include_changes_nothing = refl
+
+the_main_file_is_entered_though_it_is_to_be_read_once : ends_by (files_of (("/p/u.cpp", "#pragma once\n#ifdef X\nimport again;\n#endif\n#define X\nimport a;\n") ∷ [])) (with_forced [] ("u.cpp" ∷ [])) ≡ requiring ("a" ∷ "again" ∷ [])
+unfolding running
+the_main_file_is_entered_though_it_is_to_be_read_once = refl
+
+a_line_directive_names_the_file : looks_with (("/p/u.cpp", "#line 7 \"y.h\"\n#include __FILE__\n") ∷ ("/p/y.h", "") ∷ []) ≡ map codes ("/p/u.cpp" ∷ "/p/y.h" ∷ [])
+unfolding running
+a_line_directive_names_the_file = refl
+
+a_skipped_include_does_not_look : looks_with (("/p/u.cpp", "#if 0\n#include \"x.h\"\n#endif\n") ∷ []) ≡ map codes ("/p/u.cpp" ∷ [])
+unfolding running
+a_skipped_include_does_not_look = refl
 
 nested_files_are_read_once_or_twice : ends_with (("/p/u.cpp", "#include \"a.h\"\n#include \"b.h\"\n#include \"a.h\"\nimport u;\n") ∷ ("/p/a.h", "#pragma once\n#include \"b.h\"\nimport a;\n") ∷ ("/p/b.h", "#ifdef B\nimport again;\n#endif\n#define B\nimport b;\n") ∷ []) ≡ requiring ("b" ∷ "a" ∷ "again" ∷ "u" ∷ [])
 unfolding running
@@ -80,6 +100,22 @@ kept_lines_give_the_same : answer_by kept (files_of (("/p/u.cpp", "#define H <v.
 unfolding running
 kept_lines_give_the_same = refl
 
+an_angled_name_has_this_order : looked (files_of (("/p/u.cpp", "#include <z.h>\n") ∷ [])) (record { predefines = None; program = map codes ("/o" ∷ []) }) (JobIs.Run (record plain { search = record { quote = map codes ("/q" ∷ []); angled = map codes ("/i" ∷ []); system = map codes ("/s" ∷ []); after = map codes ("/d" ∷ []) } })) ≡ map codes ("/p/u.cpp" ∷ "/i/z.h" ∷ "/s/z.h" ∷ "/o/z.h" ∷ "/d/z.h" ∷ [])
+unfolding running
+an_angled_name_has_this_order = refl
+
+a_quoted_name_has_this_order : looked (files_of (("/p/u.cpp", "#include \"z.h\"\n") ∷ [])) (record { predefines = None; program = map codes ("/o" ∷ []) }) (JobIs.Run (record plain { search = record { quote = map codes ("/q" ∷ []); angled = map codes ("/i" ∷ []); system = map codes ("/s" ∷ []); after = map codes ("/d" ∷ []) } })) ≡ map codes ("/p/u.cpp" ∷ "/p/z.h" ∷ "/q/z.h" ∷ "/i/z.h" ∷ "/s/z.h" ∷ "/o/z.h" ∷ "/d/z.h" ∷ [])
+unfolding running
+a_quoted_name_has_this_order = refl
+
+an_absolute_name_stands_alone : looked (files_of (("/p/u.cpp", "#include <//z//./y.h>\n") ∷ [])) (record { predefines = None; program = map codes ("/o" ∷ []) }) (JobIs.Run (record plain { search = record { quote = map codes ("/q" ∷ []); angled = map codes ("/i" ∷ []); system = map codes ("/s" ∷ []); after = map codes ("/d" ∷ []) } })) ≡ map codes ("/p/u.cpp" ∷ "/z/y.h" ∷ [])
+unfolding running
+an_absolute_name_stands_alone = refl
+
+a_name_of_tokens_keeps_its_spaces : looked (files_of (("/p/u.cpp", "#define H < a/ b.h>\n#include H\n") ∷ [])) (record { predefines = None; program = map codes ("/o" ∷ []) }) (JobIs.Run (record plain { search = record { quote = map codes ("/q" ∷ []); angled = map codes ("/i" ∷ []); system = map codes ("/s" ∷ []); after = map codes ("/d" ∷ []) } })) ≡ map codes ("/p/u.cpp" ∷ "/i/a/ b.h" ∷ "/s/a/ b.h" ∷ "/o/a/ b.h" ∷ "/d/a/ b.h" ∷ [])
+unfolding running
+a_name_of_tokens_keeps_its_spaces = refl
+
 a_name_beside_an_included_file : ends_with (("/p/u.cpp", "#include \"d/a.h\"\n") ∷ ("/p/d/a.h", "#include \"b.h\"\n") ∷ ("/p/d/b.h", "import d;\n") ∷ ("/p/b.h", "import p;\n") ∷ []) ≡ requiring ("d" ∷ [])
 unfolding running
 a_name_beside_an_included_file = refl
@@ -105,6 +141,10 @@ each_question_looks_evaluated_or_not = refl
 a_skipped_question_does_not_look : looks_with (("/p/u.cpp", "#if 1\n#elif __has_include(\"x.h\")\n#endif\n") ∷ []) ≡ map codes ("/p/u.cpp" ∷ [])
 unfolding running
 a_skipped_question_does_not_look = refl
+
+a_question_may_be_made_by_a_macro : ends_by (files_of (("/p/u.cpp", "#define H <x.h>\n#if __has_include(H) && !__has_include(\"x.h\" )\n#endif\n#if __has_include(H)\nimport x;\n#endif\n") ∷ ("/i/x.h", "") ∷ [])) (with_folder "/i") ≡ requiring ("x" ∷ [])
+unfolding running
+a_question_may_be_made_by_a_macro = refl
 
 a_question_names_a_header : ends "#if __has_include(x.h)\n#endif\n" ≡ stops FaultIs.BadCondition 1
 unfolding running

@@ -26,6 +26,10 @@ a_header_unit_is_refused : ends "import <vector>;" ≡ stops FaultIs.HeaderUnit 
 unfolding running
 a_header_unit_is_refused = refl
 
+a_header_unit_is_refused_before_its_form : ends "import \"v\" x" ≡ stops FaultIs.HeaderUnit 1
+unfolding running
+a_header_unit_is_refused_before_its_form = refl
+
 a_module_line_ends_with_a_semicolon : ends "import a" ≡ stops FaultIs.BadModuleLine 1
 unfolding running
 a_module_line_ends_with_a_semicolon = refl
@@ -37,6 +41,14 @@ a_unit_has_one_module = refl
 a_keyword_is_no_object_like_macro : ends "#define import x\nimport a;\n" ≡ stops FaultIs.KeywordIsMacro 2
 unfolding running
 a_keyword_is_no_object_like_macro = refl
+
+nor_is_the_export_before_it : ends "#define export\nexport module M;\n" ≡ stops FaultIs.KeywordIsMacro 2
+unfolding running
+nor_is_the_export_before_it = refl
+
+nor_is_the_keyword_after_an_export : ends "#define module x\nexport module M;\n" ≡ stops FaultIs.KeywordIsMacro 2
+unfolding running
+nor_is_the_keyword_after_an_export = refl
 
 a_function_like_macro_named_as_a_keyword_stands : ends "#define import() x\nimport a;\n" ≡ requiring ("a" ∷ [])
 unfolding running
@@ -134,6 +146,10 @@ a_saved_macro_comes_back : ends "#define A 1\n#pragma push_macro(\"A\")\n#undef 
 unfolding running
 a_saved_macro_comes_back = refl
 
+saved_macros_come_back_in_turn : ends "#define A a\n#pragma push_macro(\"A\")\n#define A b\n#pragma push_macro(\"A\")\n#undef A\n#pragma pop_macro(\"A\")\nimport A;\n#pragma pop_macro(\"A\")\nimport A;\n#pragma pop_macro(\"A\")\nimport A;\n" ≡ requiring ("b" ∷ "a" ∷ [])
+unfolding running
+saved_macros_come_back_in_turn = refl
+
 a_counter_is_text_alone : ends "int n = __COUNTER__;\n#if defined(__COUNTER__)\nimport a;\n#endif\n#if __COUNTER__\n#endif\n" ≡ stops FaultIs.CounterUsed 5
 unfolding running
 a_counter_is_text_alone = refl
@@ -168,6 +184,10 @@ an_elif_is_taken_where_none_was : ends "#if 0\nimport a;\n#elif 1\nimport b;\n#e
 unfolding running
 an_elif_is_taken_where_none_was = refl
 
+one_group_is_taken_at_most : ends "#if 1\nimport a;\n#elif 1\nimport b;\n#else\nimport c;\n#endif\n" ≡ requiring ("a" ∷ [])
+unfolding running
+one_group_is_taken_at_most = refl
+
 an_else_is_taken_where_none_was : ends "#ifdef X\nimport a;\n#else\nimport b;\n#endif\n" ≡ requiring ("b" ∷ [])
 unfolding running
 an_else_is_taken_where_none_was = refl
@@ -175,6 +195,14 @@ an_else_is_taken_where_none_was = refl
 an_ifndef_is_the_other_way_round : ends "#define X\n#ifndef X\nimport a;\n#else\nimport b;\n#endif\n" ≡ requiring ("b" ∷ [])
 unfolding running
 an_ifndef_is_the_other_way_round = refl
+
+what_follows_a_closed_group_stands : ends "#if 0\n#else\n#endif\n#if 1\nimport a;\n#endif\nimport b;\n" ≡ requiring ("a" ∷ "b" ∷ [])
+unfolding running
+what_follows_a_closed_group_stands = refl
+
+an_else_inside_a_skipped_group_is_skipped : ends "#if 0\n#if 0\n#else\nimport a;\n#endif\n#endif\nimport b;\n" ≡ requiring ("b" ∷ [])
+unfolding running
+an_else_inside_a_skipped_group_is_skipped = refl
 
 a_condition_inside_a_skipped_group_is_not_evaluated : ends "#if 0\n#if x(\n#endif\n#elif 1\nimport a;\n#endif\n" ≡ requiring ("a" ∷ [])
 unfolding running
