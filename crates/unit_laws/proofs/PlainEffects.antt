@@ -37,15 +37,15 @@ use Rattle.scan_model.specs.Conditionals.{with_has_values, on_value, on_terms, w
 use Rattle.scan_model.specs.Directives.{Directive, If, Ifdef, Ifndef, Elif, Else, Endif, Define, Undef, Include, Renumber, Error, Pragma, Nothing, Unknown, directive_of, defined, undef_line, numbered, is_line_number, line_set, quoted_name, with_macros, pragma_line, plain_line, hash_line}
 use Rattle.scan_model.specs.KeywordLines.{is_object_like, as_keyword, sent, keyword_line, export_line, module_line}
 use Rattle.scan_model.specs.DirectiveLines.{effect_of, effect}
-use Rattle.unit_laws.specs.Streams.{is_mark, HasNoKeyword}
+use Rattle.unit_laws.specs.Streams.{is_stream_kind, KeywordsInPlace}
 use Rattle.unit_laws.proofs.PlainText.{OnLine, IsPlainLine}
 use Rattle.unit_laws.proofs.Parts.{OnSome, some_if}
 use Rattle.unit_laws.proofs.PlainMacros.{PlainToks, PlainDef, PlainDefined, define_plain}
 use Rattle.unit_laws.proofs.PlainExpansion.{PlainDefs, PlainAnswer, expand_plain}
 
-pub none_marked : (ts : List Tok) → PlainToks ts → list_any (λ t. is_mark t.kind) ts ≡ false
-none_marked [] h = refl
-none_marked (t ∷ ts) h = rw h.0 (none_marked ts h.1)
+pub no_stream_kind : (ts : List Tok) → PlainToks ts → list_any (λ t. is_stream_kind t.kind) ts ≡ false
+no_stream_kind [] h = refl
+no_stream_kind (t ∷ ts) h = rw h.0 (no_stream_kind ts h.1)
 
 pub line_toks : (line : ℕ) (ts : List Tok) → OnLine line ts → PlainToks ts
 line_toks line [] h = tt
@@ -92,7 +92,7 @@ module _ (X : Type 0) where
   abbrev pub PlainEffect : Effect X → Type 0
   PlainEffect (Now c) = PlainCore c
   PlainEffect (Enters place path text c) = PlainCore c
-  PlainEffect (Sends l c) = HasNoKeyword (Sent l) × PlainCore c
+  PlainEffect (Sends l c) = KeywordsInPlace (Sent l) × PlainCore c
   PlainEffect (Halts cause c) = ⊤
 
   effect_if : (b : Bool) (e f : Effect X) → PlainEffect e → PlainEffect f → PlainEffect (if b then e else f)
@@ -278,7 +278,7 @@ module _ (X : Type 0) where
       keyword_plain c l (t ∷ ts) h k =
           effect_if (is_object_like (c.macros.defs t.text)) (stop FaultIs.KeywordIsMacro c l) _ tt
           (replaced_plain ModeIs.Line c l ts (sent c l false [] t) h (line_toks l.line ts k.1)
-          (λ ts p. ((none_marked ts p, refl, ap (◌∷ []) k.0.1), h)))
+          (λ ts p. ((no_stream_kind ts p, refl, ap (◌∷ []) k.0.1), h)))
 
       exported_plain : (c : Core) (l : Line) (x : Tok) (ts : List Tok) → PlainCore c → x.line ≡ l.line → OnLine l.line ts → PlainEffect (keyword_line c l true (as_keyword ExportKw x ∷ []) ts)
       exported_plain c l x [] h e k = h
@@ -286,7 +286,7 @@ module _ (X : Type 0) where
           let lines : x.line ∷ t.line ∷ [] ≡ l.line ∷ l.line ∷ [] = two k.0.1 in
           effect_if (is_object_like (c.macros.defs t.text)) (stop FaultIs.KeywordIsMacro c l) _ tt
           (replaced_plain ModeIs.Line c l ts (sent c l true (as_keyword ExportKw x ∷ []) t) h (line_toks l.line ts k.1)
-          (λ ts p. ((none_marked ts p, refl, lines), h))) where
+          (λ ts p. ((no_stream_kind ts p, refl, lines), h))) where
             two : t.line ≡ l.line → x.line ∷ t.line ∷ [] ≡ l.line ∷ l.line ∷ []
             two d = cc
 

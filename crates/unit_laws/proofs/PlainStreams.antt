@@ -27,23 +27,23 @@ use Rattle.scan_model.specs.KeywordLines.{module_line}
 use Rattle.scan_model.specs.DirectiveLines.{effect_of, effect}
 use Rattle.scan_model.specs.WholeFile.{View, run_done, end_run, joined, full_line, full_lines, at_file_start, at_file_end, full_file, entered_limit, enter}
 use Rattle.scan_model.specs.WholeUnit.{first_state, command_place, first_file, predefines, setting_text, set_first, set_all, force, force_all, full}
-use Rattle.unit_laws.specs.Streams.{HasNoKeyword, stream_of, UnitsAreMarked, UnitsReadByTokens}
+use Rattle.unit_laws.specs.Streams.{KeywordsInPlace, stream_of, UnitsHaveKeywordsInPlace, UnitsReadByTokens}
 use Rattle.unit_laws.proofs.PlainText.{StartsAs, ArePlainLines, lines_plain, BeginsAs, FirstBegins, hash_first}
 use Rattle.unit_laws.proofs.Parts.{all_append}
 use Rattle.unit_laws.proofs.PlainMacros.{PlainTok, PlainToks}
 use Rattle.unit_laws.proofs.PlainExpansion.{PlainAnswer, expand_plain}
-use Rattle.unit_laws.proofs.PlainEffects.{none_marked, line_toks, PlainCore, PlainEffect, built_ins_plain, with_found_plain, include_plain, drop_plain, hash_plain, effect_plain}
+use Rattle.unit_laws.proofs.PlainEffects.{no_stream_kind, line_toks, PlainCore, PlainEffect, built_ins_plain, with_found_plain, include_plain, drop_plain, hash_plain, effect_plain}
 use Rattle.unit_laws.proofs.StreamLemmas.{read_by_tokens}
 
-abbrev IsMarked : List Piece → Type 0
-IsMarked pieces = AllByRecursion HasNoKeyword pieces
+abbrev InPlace : List Piece → Type 0
+InPlace pieces = AllByRecursion KeywordsInPlace pieces
 
 abbrev PlainState : State → Type 0
-PlainState s = PlainCore s.core × PlainToks s.run × IsMarked s.stream
+PlainState s = PlainCore s.core × PlainToks s.run × InPlace s.stream
 
 abbrev PlainReached : Reached → Type 0
 PlainReached (Going s) = PlainState s
-PlainReached (Stopped stop) = IsMarked stop.stream
+PlainReached (Stopped stop) = InPlace stop.stream
 
 reached_if : (b : Bool) (r q : Reached) → PlainReached r → PlainReached q → PlainReached (if b then r else q)
 reached_if true r q h k = h
@@ -56,10 +56,10 @@ then_plain further (Stopped stop) h each = h
 -- ## Runs
 
 run_done_plain : (s : State) (answer : Expanded) → PlainState s → PlainAnswer answer → PlainState (run_done s answer)
-run_done_plain s (Gives.Done ts counter) h k = (h.0, tt, all_append HasNoKeyword s.stream (Run s.core.path ts ∷ []) h.2 (none_marked ts k, tt))
-run_done_plain s Gives.Bad h k = (h.0, tt, all_append HasNoKeyword s.stream (Run s.core.path s.run ∷ []) h.2 (none_marked s.run h.1, tt))
-run_done_plain s Gives.TooLong h k = (h.0, tt, all_append HasNoKeyword s.stream (Run s.core.path s.run ∷ []) h.2 (none_marked s.run h.1, tt))
-run_done_plain s Gives.Counter h k = (h.0, tt, all_append HasNoKeyword s.stream (Run s.core.path s.run ∷ []) h.2 (none_marked s.run h.1, tt))
+run_done_plain s (Gives.Done ts counter) h k = (h.0, tt, all_append KeywordsInPlace s.stream (Run s.core.path ts ∷ []) h.2 (no_stream_kind ts k, tt))
+run_done_plain s Gives.Bad h k = (h.0, tt, all_append KeywordsInPlace s.stream (Run s.core.path s.run ∷ []) h.2 (no_stream_kind s.run h.1, tt))
+run_done_plain s Gives.TooLong h k = (h.0, tt, all_append KeywordsInPlace s.stream (Run s.core.path s.run ∷ []) h.2 (no_stream_kind s.run h.1, tt))
+run_done_plain s Gives.Counter h k = (h.0, tt, all_append KeywordsInPlace s.stream (Run s.core.path s.run ∷ []) h.2 (no_stream_kind s.run h.1, tt))
 
 end_run_plain : (s : State) → PlainState s → PlainState (end_run s)
 unfolding end_run
@@ -74,7 +74,7 @@ module _ (X : Type 0) where
   done_plain : (e : Enter X) (s : State) (f : Effect X) → EntersPlain e → PlainState s → PlainEffect X f → PlainReached (done e s f)
   done_plain e s (Now c) enters h k = (k, h.1, h.2)
   done_plain e s (Enters place path text c) enters h k = enters place path text (record s { core = c }) (k, h.1, h.2)
-  done_plain e s (Sends l c) enters h k = (k.1, h.1, all_append HasNoKeyword s.stream (Sent l ∷ []) h.2 (k.0, tt))
+  done_plain e s (Sends l c) enters h k = (k.1, h.1, all_append KeywordsInPlace s.stream (Sent l ∷ []) h.2 (k.0, tt))
   done_plain e s (Halts cause c) enters h k = h.2
 
   joined_plain : (s : State) (l : Line) → PlainState s → PlainToks l.toks → PlainState (joined s l)
@@ -216,12 +216,12 @@ module _ (X : Type 0) where
           (λ s h. force_all_plain (length c.settings + 1) c.forced s h))
           (λ s h. first_file_plain FaultIs.MainMissing c.main s h)
 
-marked_of : (r : Reached) → PlainReached r → IsMarked (stream_of r)
-marked_of (Going s) h = h.2
-marked_of (Stopped stop) h = h
+in_place_of : (r : Reached) → PlainReached r → InPlace (stream_of r)
+in_place_of (Going s) h = h.2
+in_place_of (Stopped stop) h = h
 
-pub units_are_marked : UnitsAreMarked
-units_are_marked files setup = marked_of (full lines files setup) (full_plain (List ℕ) files setup lines lines_plain)
+pub units_in_place : UnitsHaveKeywordsInPlace
+units_in_place files setup = in_place_of (full lines files setup) (full_plain (List ℕ) files setup lines lines_plain)
 
 pub units_read_by_tokens : UnitsReadByTokens
-units_read_by_tokens files setup = read_by_tokens setup.command (stream_of (full lines files setup)) (units_are_marked files setup)
+units_read_by_tokens files setup = read_by_tokens setup.command (stream_of (full lines files setup)) (units_in_place files setup)

@@ -11,12 +11,12 @@ use Rattle.scan_model.specs.Spliced.{Spot, shown, spliced, line_at}
 use Rattle.scan_model.specs.Spelling.{is_ident, is_number, is_char, is_punct, is_header, encoding_len, opens_raw, is_delimited, after_raw, longest}
 use Rattle.scan_model.specs.Tokens.{Lexeme, bytes, next_blank, after_blanks, cut, wants_header, is_token, kind_of, is_character, rest_of_line, is_open, is_lone_less, written_after, raw_closed, raw_lexeme, lexeme, token_at, next_token}
 use Rattle.scan_model.specs.Lines.{tok, closed, lines_up_to, lines_from, lines}
-use Rattle.unit_laws.specs.Streams.{is_mark}
+use Rattle.unit_laws.specs.Streams.{is_stream_kind}
 
 -- ## Kinds
 
 abbrev pub IsPlain : Kind → Type 0
-IsPlain kind = is_mark kind ≡ false
+IsPlain kind = is_stream_kind kind ≡ false
 
 plain_if : (b : Bool) (kind other : Kind) → IsPlain kind → IsPlain other → IsPlain (if b then kind else other)
 plain_if true kind other h k = h

@@ -107,36 +107,7 @@ module _ (X Y : Type 0) (view : View X) (other : View Y) where
   same_found_at path (Some Failed) (Some Failed) later later' h r = (refl, tt)
   same_found_at path (Some Big) (Some Big) later later' h r = (refl, tt)
   same_found_at path (Some NoMemory) (Some NoMemory) later later' h r = (refl, tt)
-  same_found_at path None (Some (Present y)) later later' h r = absurd h
-  same_found_at path None (Some Absent) later later' h r = absurd h
-  same_found_at path None (Some Failed) later later' h r = absurd h
-  same_found_at path None (Some Big) later later' h r = absurd h
-  same_found_at path None (Some NoMemory) later later' h r = absurd h
-  same_found_at path (Some (Present x)) None later later' h r = absurd h
-  same_found_at path (Some (Present x)) (Some Absent) later later' h r = absurd h
-  same_found_at path (Some (Present x)) (Some Failed) later later' h r = absurd h
-  same_found_at path (Some (Present x)) (Some Big) later later' h r = absurd h
-  same_found_at path (Some (Present x)) (Some NoMemory) later later' h r = absurd h
-  same_found_at path (Some Absent) None later later' h r = absurd h
-  same_found_at path (Some Absent) (Some (Present y)) later later' h r = absurd h
-  same_found_at path (Some Absent) (Some Failed) later later' h r = absurd h
-  same_found_at path (Some Absent) (Some Big) later later' h r = absurd h
-  same_found_at path (Some Absent) (Some NoMemory) later later' h r = absurd h
-  same_found_at path (Some Failed) None later later' h r = absurd h
-  same_found_at path (Some Failed) (Some (Present y)) later later' h r = absurd h
-  same_found_at path (Some Failed) (Some Absent) later later' h r = absurd h
-  same_found_at path (Some Failed) (Some Big) later later' h r = absurd h
-  same_found_at path (Some Failed) (Some NoMemory) later later' h r = absurd h
-  same_found_at path (Some Big) None later later' h r = absurd h
-  same_found_at path (Some Big) (Some (Present y)) later later' h r = absurd h
-  same_found_at path (Some Big) (Some Absent) later later' h r = absurd h
-  same_found_at path (Some Big) (Some Failed) later later' h r = absurd h
-  same_found_at path (Some Big) (Some NoMemory) later later' h r = absurd h
-  same_found_at path (Some NoMemory) None later later' h r = absurd h
-  same_found_at path (Some NoMemory) (Some (Present y)) later later' h r = absurd h
-  same_found_at path (Some NoMemory) (Some Absent) later later' h r = absurd h
-  same_found_at path (Some NoMemory) (Some Failed) later later' h r = absurd h
-  same_found_at path (Some NoMemory) (Some Big) later later' h r = absurd h
+  same_found_at path content another later later' h r = absurd h
 
   same_later : (content : Option (Content X)) (content' : Option (Content Y)) (later later' : List (List ℕ)) →
       SameContent X Y view other content content' → later ≡ later' → and_later content later ≡ and_later content' later'
@@ -146,36 +117,7 @@ module _ (X Y : Type 0) (view : View X) (other : View Y) where
   same_later (Some Failed) (Some Failed) later later' h r = refl
   same_later (Some Big) (Some Big) later later' h r = refl
   same_later (Some NoMemory) (Some NoMemory) later later' h r = refl
-  same_later None (Some (Present y)) later later' h r = absurd h
-  same_later None (Some Absent) later later' h r = absurd h
-  same_later None (Some Failed) later later' h r = absurd h
-  same_later None (Some Big) later later' h r = absurd h
-  same_later None (Some NoMemory) later later' h r = absurd h
-  same_later (Some (Present x)) None later later' h r = absurd h
-  same_later (Some (Present x)) (Some Absent) later later' h r = absurd h
-  same_later (Some (Present x)) (Some Failed) later later' h r = absurd h
-  same_later (Some (Present x)) (Some Big) later later' h r = absurd h
-  same_later (Some (Present x)) (Some NoMemory) later later' h r = absurd h
-  same_later (Some Absent) None later later' h r = absurd h
-  same_later (Some Absent) (Some (Present y)) later later' h r = absurd h
-  same_later (Some Absent) (Some Failed) later later' h r = absurd h
-  same_later (Some Absent) (Some Big) later later' h r = absurd h
-  same_later (Some Absent) (Some NoMemory) later later' h r = absurd h
-  same_later (Some Failed) None later later' h r = absurd h
-  same_later (Some Failed) (Some (Present y)) later later' h r = absurd h
-  same_later (Some Failed) (Some Absent) later later' h r = absurd h
-  same_later (Some Failed) (Some Big) later later' h r = absurd h
-  same_later (Some Failed) (Some NoMemory) later later' h r = absurd h
-  same_later (Some Big) None later later' h r = absurd h
-  same_later (Some Big) (Some (Present y)) later later' h r = absurd h
-  same_later (Some Big) (Some Absent) later later' h r = absurd h
-  same_later (Some Big) (Some Failed) later later' h r = absurd h
-  same_later (Some Big) (Some NoMemory) later later' h r = absurd h
-  same_later (Some NoMemory) None later later' h r = absurd h
-  same_later (Some NoMemory) (Some (Present y)) later later' h r = absurd h
-  same_later (Some NoMemory) (Some Absent) later later' h r = absurd h
-  same_later (Some NoMemory) (Some Failed) later later' h r = absurd h
-  same_later (Some NoMemory) (Some Big) later later' h r = absurd h
+  same_later content another later later' h r = absurd h
 
   -- ## What looks at files
 
@@ -190,48 +132,8 @@ module _ (X Y : Type 0) (view : View X) (other : View Y) where
   same_on_found place c a b p q k m (At path Failed) (At path' Failed) h = (refl, refl)
   same_on_found place c a b p q k m (At path Big) (At path' Big) h = (refl, refl)
   same_on_found place c a b p q k m (At path NoMemory) (At path' NoMemory) h = (refl, refl)
-  same_on_found place c a b p q k m Nowhere (Unread path') h = absurd h
-  same_on_found place c a b p q k m Nowhere (At path' (Present y)) h = absurd h
-  same_on_found place c a b p q k m Nowhere (At path' Absent) h = absurd h
-  same_on_found place c a b p q k m Nowhere (At path' Failed) h = absurd h
-  same_on_found place c a b p q k m Nowhere (At path' Big) h = absurd h
-  same_on_found place c a b p q k m Nowhere (At path' NoMemory) h = absurd h
-  same_on_found place c a b p q k m (Unread path) Nowhere h = absurd h
-  same_on_found place c a b p q k m (Unread path) (At path' (Present y)) h = absurd h
-  same_on_found place c a b p q k m (Unread path) (At path' Absent) h = absurd h
-  same_on_found place c a b p q k m (Unread path) (At path' Failed) h = absurd h
-  same_on_found place c a b p q k m (Unread path) (At path' Big) h = absurd h
-  same_on_found place c a b p q k m (Unread path) (At path' NoMemory) h = absurd h
-  same_on_found place c a b p q k m (At path (Present x)) Nowhere h = absurd h
-  same_on_found place c a b p q k m (At path (Present x)) (Unread path') h = absurd h
-  same_on_found place c a b p q k m (At path (Present x)) (At path' Absent) h = absurd h.1
-  same_on_found place c a b p q k m (At path (Present x)) (At path' Failed) h = absurd h.1
-  same_on_found place c a b p q k m (At path (Present x)) (At path' Big) h = absurd h.1
-  same_on_found place c a b p q k m (At path (Present x)) (At path' NoMemory) h = absurd h.1
-  same_on_found place c a b p q k m (At path Absent) Nowhere h = absurd h
-  same_on_found place c a b p q k m (At path Absent) (Unread path') h = absurd h
-  same_on_found place c a b p q k m (At path Absent) (At path' (Present y)) h = absurd h.1
-  same_on_found place c a b p q k m (At path Absent) (At path' Failed) h = absurd h.1
-  same_on_found place c a b p q k m (At path Absent) (At path' Big) h = absurd h.1
-  same_on_found place c a b p q k m (At path Absent) (At path' NoMemory) h = absurd h.1
-  same_on_found place c a b p q k m (At path Failed) Nowhere h = absurd h
-  same_on_found place c a b p q k m (At path Failed) (Unread path') h = absurd h
-  same_on_found place c a b p q k m (At path Failed) (At path' (Present y)) h = absurd h.1
-  same_on_found place c a b p q k m (At path Failed) (At path' Absent) h = absurd h.1
-  same_on_found place c a b p q k m (At path Failed) (At path' Big) h = absurd h.1
-  same_on_found place c a b p q k m (At path Failed) (At path' NoMemory) h = absurd h.1
-  same_on_found place c a b p q k m (At path Big) Nowhere h = absurd h
-  same_on_found place c a b p q k m (At path Big) (Unread path') h = absurd h
-  same_on_found place c a b p q k m (At path Big) (At path' (Present y)) h = absurd h.1
-  same_on_found place c a b p q k m (At path Big) (At path' Absent) h = absurd h.1
-  same_on_found place c a b p q k m (At path Big) (At path' Failed) h = absurd h.1
-  same_on_found place c a b p q k m (At path Big) (At path' NoMemory) h = absurd h.1
-  same_on_found place c a b p q k m (At path NoMemory) Nowhere h = absurd h
-  same_on_found place c a b p q k m (At path NoMemory) (Unread path') h = absurd h
-  same_on_found place c a b p q k m (At path NoMemory) (At path' (Present y)) h = absurd h.1
-  same_on_found place c a b p q k m (At path NoMemory) (At path' Absent) h = absurd h.1
-  same_on_found place c a b p q k m (At path NoMemory) (At path' Failed) h = absurd h.1
-  same_on_found place c a b p q k m (At path NoMemory) (At path' Big) h = absurd h.1
+  same_on_found place c a b p q k m (At path content) (At path' another) h = absurd h.1
+  same_on_found place c a b p q k m found another h = absurd h
 
   same_unless_once : (place : Place) (path : List ℕ) (x : X) (y : Y) (c : Core) → SameText x y → SameEffect (unless_once place path x c) (unless_once place path y c)
   same_unless_once place path x y c h = same_if (c.once path) (Now c) (Enters place path x c) (Now c) (Enters place path y c) refl (refl, refl, h, refl)
@@ -439,18 +341,7 @@ module _ (X Y : Type 0) (view : View X) (other : View Y) (e : Enter X) (f : Ente
   done_alike each s r k (Sends l c) (Sends m d) h =
       (h.1, one_sent s.stream l ∙ ap (λ ls. ls ++ l ∷ []) k.1 ∙ ap (λ m. module_lines r.stream ++ m ∷ []) h.0 ∙ sym (one_sent r.stream m))
   done_alike each s r k (Halts cause c) (Halts cause' d) h = (h.0, ap (λ c. c.looked) h.1, k.1)
-  done_alike each s r k (Now c) (Enters place' path' y d) h = absurd h
-  done_alike each s r k (Now c) (Sends m d) h = absurd h
-  done_alike each s r k (Now c) (Halts cause' d) h = absurd h
-  done_alike each s r k (Enters place path x c) (Now d) h = absurd h
-  done_alike each s r k (Enters place path x c) (Sends m d) h = absurd h
-  done_alike each s r k (Enters place path x c) (Halts cause' d) h = absurd h
-  done_alike each s r k (Sends l c) (Now d) h = absurd h
-  done_alike each s r k (Sends l c) (Enters place' path' y d) h = absurd h
-  done_alike each s r k (Sends l c) (Halts cause' d) h = absurd h
-  done_alike each s r k (Halts cause c) (Now d) h = absurd h
-  done_alike each s r k (Halts cause c) (Enters place' path' y d) h = absurd h
-  done_alike each s r k (Halts cause c) (Sends m d) h = absurd h
+  done_alike each s r k effect another h = absurd h
 
 similar_trans : (s r q : State) → Similar s r → Similar r q → Similar s q
 similar_trans s r q k m = (k.0 ∙ m.0, k.1 ∙ m.1)

@@ -15,7 +15,7 @@ use Rattle.scan_model.specs.TokenTests.{is_of}
 use Rattle.scan_model.specs.ModuleLines.{Builder, take, new}
 use Rattle.scan_model.specs.KeywordLines.{keyword_kind}
 use Rattle.scan_model.specs.Stream.{ModuleLine, Piece, Run, Sent, module_lines, after_take, take_lines, read_stream, at_path, piece_tokens, stream_tokens, is_keyword, keyword_of_kind, to_line_end, place_at, after_tokens, read_tokens}
-use Rattle.unit_laws.specs.Streams.{word_kinds, is_mark, HasNoKeyword, without_looked, ReadByTokens}
+use Rattle.unit_laws.specs.Streams.{word_kinds, is_stream_kind, KeywordsInPlace, without_looked, ReadByTokens}
 
 abbrev Answers : Type 0
 Answers = Result Builder Fault
@@ -33,7 +33,7 @@ Silent toks = AllByRecursion (λ t. (is_keyword t.kind ≡ false) × (is_of Expo
 abbrev Unended : List Tok → Type 0
 Unended toks = AllByRecursion (λ t. is_of LineEnd t ≡ false) toks
 
-silent : (toks : List Tok) → list_any (λ t. is_mark t.kind) toks ≡ false → Silent toks × Unended toks
+silent : (toks : List Tok) → list_any (λ t. is_stream_kind t.kind) toks ≡ false → Silent toks × Unended toks
 silent [] h = (tt, tt)
 silent (t ∷ toks) h =
     let split = neither (is_keyword t.kind || is_of ExportKw t || is_of LineEnd t) _ h in
@@ -159,7 +159,7 @@ words_read path line false keyword (w ∷ []) toks looked rest ls q b silent une
 
 -- ## The stream
 
-stream_read : (pieces : List Piece) → AllByRecursion HasNoKeyword pieces → ReadsAs (stream_tokens pieces) (module_lines pieces)
+stream_read : (pieces : List Piece) → AllByRecursion KeywordsInPlace pieces → ReadsAs (stream_tokens pieces) (module_lines pieces)
 stream_read [] h q u b = refl
 stream_read (Run path toks ∷ pieces) h q u b =
     passed path toks (stream_tokens pieces) q b _ (silent toks h.0).0 u (λ before u. stream_read pieces h.1 before u b)

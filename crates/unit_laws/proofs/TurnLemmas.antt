@@ -18,9 +18,9 @@ use Rattle.scan_model.specs.Spelling.{spells}
 use Rattle.scan_model.specs.TokenTests.{is_of, is_comma, is_open_paren, is_close_paren}
 use Rattle.scan_model.specs.Parentheses.{depth_after, Enclosed, onto_inside, enclosed, in_parens}
 use Rattle.scan_model.specs.MacroDefinition.{all_params}
-use Rattle.scan_model.specs.Substitution.{Marked, Arg, subst, is_replaced}
-use Rattle.scan_model.specs.Expansion.{Scope, cost_limit, expand_up_to, Ran, Went, Failed, Replaced, Args, NotReplaced, cut_at_commas, exactly, plain_args, variadic_args, written_args, paid, out, in_condition, in_text, instead, also, hidden_by, arg_named, rescanned, built_in_out, built_in, with_arg, after_arg, replaced_args, called, call_with, call, is_called, by_def, defined_name, defined_out, first_and_rest}
-use Rattle.unit_laws.specs.Turns.{MoreTurns}
+use Rattle.scan_model.specs.Substitution.{Marked, no_name, Arg, subst, is_replaced}
+use Rattle.scan_model.specs.Expansion.{Scope, cost_limit, expand_up_to, Ran, Went, Failed, Replaced, Args, NotReplaced, cut_at_commas, exactly, plain_args, variadic_args, written_args, paid, out, in_condition, in_text, instead, also, hidden_by, arg_named, rescanned, built_in_out, built_in, with_arg, after_arg, replaced_args, called, call_with, call, is_called, by_def, defined_name, defined_out, first_and_rest, first_counter, answer_of, expand}
+use Rattle.unit_laws.specs.Turns.{MoreTurns, ExpandsInFull}
 
 abbrev Again : Type 0
 Again = List Marked → ℕ → ℕ → Ran
@@ -413,3 +413,11 @@ enough_turns (suc n) (suc k) e (m ∷ ms) cost counter le fits fits' =
 pub more_turns : MoreTurns
 more_turns e ms cost counter more le =
     enough_turns (length ms + 1 + (cost_limit - cost) + more) (length ms + 1 + (cost_limit - cost)) e ms cost counter le (omega arith) (omega arith)
+
+pub expands_in_full : ExpandsInFull
+unfolding expand
+expands_in_full defs site mode toks more =
+    let e : Scope = record { defs = defs; site = site; mode = mode } in
+    let marked : List Marked = map (λ t. record { tok = t; hides = no_name }) toks in
+    let same_length : length marked ≡ length toks = length-map toks _ in
+    ap answer_of (enough_turns (length toks + 1 + cost_limit) (length toks + 1 + cost_limit + more) e marked 0 (first_counter mode) (omega arith) (omega arith) (omega arith))

@@ -7,14 +7,15 @@ use Rattle.scan_model.specs.Files.{FileMap, Content}
 use Rattle.scan_model.specs.WholeFile.{View}
 use Rattle.scan_model.specs.Answer.{Answer, Known, answer_by, looked_by}
 
--- ## Growth, for files seen in any way
-
+-- the larger map has all that the smaller one has
 abbrev pub Extends : (X : Type 0) → FileMap X → FileMap X → Type 0
 Extends X files more = (path : List ℕ) (content : Content X) → files path ≡ Some content → more path ≡ Some content
 
+-- these paths, in this order, begin the others
 abbrev pub Begins : List (List ℕ) → List (List ℕ) → Type 0
 Begins paths others = take (length paths) others ≡ paths
 
+-- files seen in any way
 module _ (X : Type 0) (view : View X) where
   -- where the answer doesn't need another path, it stays
   abbrev pub AnswerStays : Type 0
@@ -22,7 +23,7 @@ module _ (X : Type 0) (view : View X) where
       answer_by view files settings job ≡ Known end →
       (answer_by view more settings job ≡ Known end) × (looked_by view more settings job ≡ looked_by view files settings job)
 
-  -- where it does, what was looked at stays
+  -- what was looked at stays, whatever the answer
   abbrev pub LookedGrows : Type 0
   LookedGrows = (files more : FileMap X) (settings : Settings) (job : Job) → Extends X files more →
       Begins (looked_by view files settings job) (looked_by view more settings job)

@@ -15,27 +15,34 @@ use Rattle.scan_model.specs.Effect.{Enter}
 use Rattle.scan_model.specs.WholeFile.{View, end_run, full_line, full_lines, enter}
 use Rattle.scan_model.specs.Answer.{answer, looked, answer_by, looked_by}
 
--- ## Reduction
+-- ## Alike
 
--- both go on with one core and the same module and import lines, or both stop alike
+-- the same module and import lines
 abbrev pub SameSent : List Piece → List Piece → Type 0
 SameSent pieces others = module_lines pieces ≡ module_lines others
 
+-- the same of what directives read and change, and the same module and import lines
 abbrev pub Similar : State → State → Type 0
 Similar s r = (s.core ≡ r.core) × SameSent s.stream r.stream
 
+-- both go on so, or both stop with one cause, the same looks and the same module and import lines
 abbrev pub Alike : Reached → Reached → Type 0
 Alike (Going s) (Going r) = Similar s r
 Alike (Stopped s) (Stopped r) = (s.cause ≡ r.cause) × (s.looked ≡ r.looked) × SameSent s.stream r.stream
 Alike s r = ⊥
 
--- a line that is no directive changes the run alone, and the end of a run the run, the counter and the text
+-- ## Text
+
+-- a line that is no directive changes the pending run alone
 abbrev pub TextKeepsCore : Type 0 → Type 0
 TextKeepsCore X = (e : Enter X) (files : FileMap X) (setup : Setup) (s : State) (l : Line) →
     is_directive l ≡ false → (run : List Tok) × (full_line e files setup s l ≡ Going (record s { run = run }))
 
+-- the end of a run changes the run, the counter and the text of the stream
 abbrev pub RunKeepsCore : Type 0
 RunKeepsCore = (s : State) → Similar (end_run s) s
+
+-- ## Files
 
 -- Two ways to see files, of which the directives are the same: whole files and their kept lines, for one.
 module _ (X Y : Type 0) (view : View X) (other : View Y) where
@@ -48,10 +55,12 @@ module _ (X Y : Type 0) (view : View X) (other : View Y) where
   SameContent (Some NoMemory) (Some NoMemory) = ⊤
   SameContent content another = ⊥
 
+  -- at every path
   abbrev pub SameFiles : FileMap X → FileMap Y → Type 0
   SameFiles files others = (path : List ℕ) → SameContent (files path) (others path)
 
-  -- lists of lines with the same directives are gone through alike, so each directive is reached alike
+  -- Lists of lines with the same directives are gone through alike. So a directive is reached with the same core: take
+  -- for the lists what stands before it.
   abbrev pub LinesAlike : Type 0
   LinesAlike = (files : FileMap X) (others : FileMap Y) (setup : Setup) (n : ℕ) (ls ms : List Line) (s r : State) →
       SameFiles files others → filter is_directive ls ≡ filter is_directive ms → Similar s r →
@@ -63,12 +72,14 @@ module _ (X Y : Type 0) (view : View X) (other : View Y) where
       SameFiles files others → filter is_directive (view x) ≡ filter is_directive (other y) → Similar s r →
       Alike (enter view files setup n place path x s) (enter other others setup n place path y r)
 
+-- ## Units
+
 -- the answer and what was looked at are those of the kept lines
 abbrev pub KeptAnswers : Type 0
 KeptAnswers = (files : FileMap (List ℕ)) (settings : Settings) (job : Job) →
     (answer_by kept files settings job ≡ answer files settings job) × (looked_by kept files settings job ≡ looked files settings job)
 
--- ## The unit
+-- ## What a unit is given
 
 -- what a unit is given of a path: its kept lines, or another outcome
 abbrev pub Given : Type 0

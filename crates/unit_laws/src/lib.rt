@@ -25,4 +25,4 @@ pub use streams::{
     keywords_stand_in_module_lines_alone, tokens_give_what_module_lines_give,
     units_read_by_tokens_alike,
 };
-pub use turns::further_turns_change_no_expansion;
+pub use turns::{further_turns_change_nothing, no_expansion_lacks_turns};
