@@ -100,6 +100,14 @@ a_bad_run_keeps_the_counter : leaves "#define A(x) x\n__COUNTER__ A(\n#\n__COUNT
 unfolding running
 a_bad_run_keeps_the_counter = refl
 
+a_token_put_in_has_the_line_of_the_name : leaves "#define A(x) x __LINE__\nA(\n__LINE__)\n" ≡ map codes ("3" ∷ "2" ∷ [])
+unfolding running
+a_token_put_in_has_the_line_of_the_name = refl
+
+presumed_lines_go_on : leaves "#line 100\n__LINE__\n\n__LINE__\n" ≡ map codes ("100" ∷ "102" ∷ [])
+unfolding running
+presumed_lines_go_on = refl
+
 words_inside_a_run_make_no_module_line : leaves "x\nimport ;\n" ≡ map codes ("x" ∷ "import" ∷ ";" ∷ [])
 unfolding running
 words_inside_a_run_make_no_module_line = refl
@@ -266,6 +274,10 @@ an_error_stops = refl
 a_directive_is_known : ends "#frob" ≡ stops FaultIs.UnknownDirective 1
 unfolding running
 a_directive_is_known = refl
+
+a_digraph_begins_a_directive : ends "%:if 1\nimport a;\n%:endif\n" ≡ requiring ("a" ∷ [])
+unfolding running
+a_digraph_begins_a_directive = refl
 
 these_directives_do_nothing : ends "#\n# 33 \"x\"\n#warning no\n#ident \"x\"\n#pragma other\nimport a;\n" ≡ requiring ("a" ∷ [])
 unfolding running
