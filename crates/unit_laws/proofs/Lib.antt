@@ -1,0 +1,17 @@
+pub mod ReductionLemmas
+pub mod KeptAnswers
+pub mod GrowthLemmas
+pub mod GrowingAnswers
+pub mod KnownAnswers
+pub mod TurnLemmas
+pub mod StreamLemmas
+pub mod Computing
+pub mod UnitForms
+pub mod WorkedUnits
+pub mod WorkedFiles
+pub mod PlainText
+pub mod Parts
+pub mod PlainMacros
+pub mod PlainExpansion
+pub mod PlainEffects
+pub mod PlainStreams

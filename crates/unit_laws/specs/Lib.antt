@@ -1,0 +1,5 @@
+pub mod Reduction
+pub mod Growth
+pub mod KnownAnswers
+pub mod Streams
+pub mod Turns

@@ -1,0 +1,28 @@
+//! The laws of the definitions of whole files and units: each function does nothing, and its contract is the law.
+//!
+//! A type parameter stands for the text of a file: its bytes, the lines that are kept of them, or any other. A view
+//! says which lines that text has.
+#![tactic(auto)]
+
+mod growth;
+mod known_answers;
+mod reduction;
+mod streams;
+mod turns;
+
+pub use growth::{a_needed_path_was_looked_at_last, an_end_stays, looked_paths_grow};
+pub use known_answers::{
+    a_known_end_is_the_answer, a_needed_path_comes_next, a_needed_path_leaves_one_to_ask,
+    a_unit_ends_as_whole_files_do, asked_paths_are_looked_at,
+    further_answers_keep_the_looked_paths,
+};
+pub use reduction::{
+    an_ended_run_keeps_the_core, files_with_the_same_directives_act_alike,
+    kept_lines_give_the_answer, lines_with_the_same_directives_act_alike,
+    reduced_files_give_the_answer, text_changes_the_run_alone,
+};
+pub use streams::{
+    keywords_stand_in_module_lines_alone, tokens_give_what_module_lines_give,
+    units_read_by_tokens_alike,
+};
+pub use turns::{further_turns_change_nothing, no_expansion_lacks_turns};
