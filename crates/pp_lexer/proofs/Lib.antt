@@ -3,3 +3,4 @@ pub mod TokenLemmas
 pub mod RunLemmas
 pub mod LexemeLemmas
 pub mod LinesLemmas
+pub mod CommentLemmas
