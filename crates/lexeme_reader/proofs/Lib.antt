@@ -1,0 +1,5 @@
+pub mod SpotLemmas
+pub mod CharacterLemmas
+pub mod TextLemmas
+pub mod LineLemmas
+pub mod FrontLemmas
