@@ -4,3 +4,10 @@ pub mod RunLemmas
 pub mod LexemeLemmas
 pub mod LinesLemmas
 pub mod CommentLemmas
+pub mod ClassLemmas
+pub mod RowLemmas
+pub mod OpeningLemmas
+pub mod ChoiceLemmas
+pub mod PlaceLemmas
+pub mod QuoteLemmas
+pub mod HeaderLemmas

@@ -1,5 +1,6 @@
 -- How what the lexer's functions return stands to the definitions.
-use Rattle.std.specs.Prelude.{◌≡◌, ℕ, Bool, ◌⊎◌, true, false, slice_index, ◌&&◌, ◌||◌, ◌==◌, List, [], ◌∷◌, Option, Some, None}
+use lib.Pointwise.{pointwise}
+use Rattle.std.specs.Prelude.{◌≡◌, ◌≢◌, nat_eq, ◌-◌, take, drop, length, ℕ, Bool, ◌⊎◌, true, false, slice_index, ◌&&◌, ◌||◌, ◌==◌, List, [], ◌∷◌, Option, Some, None}
 use Rattle.std.specs.Char.{is_ascii_digit}
 use Rattle.scan_model.specs.declared.token.Kind.{Kind}
 use Rattle.scan_model.specs.declared.token.Tok.{Tok}
@@ -57,3 +58,10 @@ is_nil (t ∷ ts) = false
 abbrev pub line_here : List Tok → ℕ → ℕ
 line_here [] line = line
 line_here (t ∷ ts) line = t.line
+
+-- `are`, with the spellings as bytes
+abbrev pub are_bytes : List (List ℕ) → List Tok → Bool
+are_bytes [] [] = true
+are_bytes [] (t ∷ ts) = false
+are_bytes (word ∷ words) [] = false
+are_bytes (word ∷ words) (t ∷ ts) = pointwise nat_eq word t.text && are_bytes words ts

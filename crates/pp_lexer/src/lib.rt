@@ -3,6 +3,7 @@
 #![tactic(auto)]
 
 mod blanks;
+mod header_names;
 mod logical_lines;
 mod plain;
 mod runs;
