@@ -11,3 +11,5 @@ pub mod ChoiceLemmas
 pub mod PlaceLemmas
 pub mod QuoteLemmas
 pub mod HeaderLemmas
+pub mod MarkLemmas
+pub mod PassedLemmas

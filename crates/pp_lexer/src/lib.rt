@@ -5,6 +5,8 @@
 mod blanks;
 mod header_names;
 mod logical_lines;
+mod marks;
+mod passed;
 mod plain;
 mod runs;
 mod spellings;
