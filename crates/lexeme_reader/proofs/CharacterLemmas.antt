@@ -8,11 +8,8 @@ use Rattle.std.specs.Str.{IsUtf8}
 use Rattle.scan_model.specs.Spliced.{Spot, byte_at}
 use Rattle.scan_model.specs.Tokens.{bytes}
 use Rattle.lexeme_reader.specs.Character.{BeginsWith, NoCharacter}
+use Rattle.lexeme_reader.proofs.TextLemmas.{take_front}
 use Rattle.lexeme_reader.proofs.SpotLemmas.{bytes-take_more, bytes-first, bytes-take, length-bytes}
-
-take_front : (xs ys : List ℕ) → take (length xs) (xs ++ ys) ≡ xs
-take_front [] ys = refl
-take_front (x ∷ xs) ys = ap (λ t. x ∷ t) (take_front xs ys)
 
 pub no_character : (s : List Spot) (n : ℕ) → (length s ≤ n) ⊎ (4 ≤ n) → ((k : ℕ) → k < n → IsUtf8 (bytes (take (k + 1) s)) → ⊥) → NoCharacter (bytes s)
 no_character s n enough none c begins =

@@ -48,29 +48,29 @@ some_chars : (cs : List ℕ) → 0 < length (encode_utf8_all cs) → 0 < length 
 some_chars [] h = h
 some_chars (c ∷ cs) h = omega arith
 
+pub text_passes : (p : List ℕ → Bool) (cs : List ℕ) → all_scalars cs ≡ true → p cs ≡ true → is_text_of p (encode_utf8_all cs) ≡ true
+text_passes p cs scalar passes =
+    let text : IsUtf8 (encode_utf8_all cs) = (cs, (scalar, refl)) in
+    rw (is_utf8-from_IsUtf8 (encode_utf8_all cs) text, chars-encodes cs scalar) passes
+
+pub take_front : (xs ys : List ℕ) → take (length xs) (xs ++ ys) ≡ xs
+take_front [] ys = refl
+take_front (x ∷ xs) ys = ap (λ t. x ∷ t) (take_front xs ys)
+
+take_more : (xs ys : List ℕ) (m : ℕ) → length xs ≤ m → take m (xs ++ ys) ≡ xs ++ take (m - length xs) ys
+take_more [] ys m h = let e : m ≡ m - 0 = omega arith in ap (λ k. take k ys) e
+take_more (x ∷ xs) ys zero h = absurd (omega arith)
+take_more (x ∷ xs) ys (suc m) h = let e : m - length xs ≡ suc m - suc (length xs) = omega arith in ap (λ t. x ∷ t) (take_more xs ys m (omega arith) ∙ ap (λ k. xs ++ take k ys) e)
+
 -- characters that pass, and then none with which they do
 pub longest_text : (p : List ℕ → Bool) (cs rest : List ℕ) → all_scalars cs ≡ true → (0 < length cs → p cs ≡ true) → EndsAt p cs rest
     → longest (is_text_of p) (encode_utf8_all cs ++ rest) ≡ length (encode_utf8_all cs)
 longest_text p cs rest scalar passes ends =
     let b = encode_utf8_all cs in
     longest_is (is_text_of p) (b ++ rest) (length b) (omega (arith, length-append b rest))
-    (λ z. ap (is_text_of p) (take_front b rest) ∙ whole p cs scalar (passes (some_chars cs z)))
+    (λ z. ap (is_text_of p) (take_front b rest) ∙ text_passes p cs scalar (passes (some_chars cs z)))
     (λ m lt le. elim (cases_Bool (is_text_of p (take m (b ++ rest)))) [
       | inl e ↦ absurd (longer p cs rest (take (m - length b) rest) (drop (m - length b) rest) ends (sym (take-append-drop (m - length b) rest))
           (omega (arith, length-take (m - length b) rest, length-append b rest)) (ap (is_text_of p) (sym (take_more b rest m (omega arith))) ∙ e))
       | inr e ↦ e
     ])
-  where
-    whole : (p : List ℕ → Bool) (cs : List ℕ) → all_scalars cs ≡ true → p cs ≡ true → is_text_of p (encode_utf8_all cs) ≡ true
-    whole p cs scalar passes =
-        let text : IsUtf8 (encode_utf8_all cs) = (cs, (scalar, refl)) in
-        rw (is_utf8-from_IsUtf8 (encode_utf8_all cs) text, chars-encodes cs scalar) passes
-
-    take_front : (xs ys : List ℕ) → take (length xs) (xs ++ ys) ≡ xs
-    take_front [] ys = refl
-    take_front (x ∷ xs) ys = ap (λ t. x ∷ t) (take_front xs ys)
-
-    take_more : (xs ys : List ℕ) (m : ℕ) → length xs ≤ m → take m (xs ++ ys) ≡ xs ++ take (m - length xs) ys
-    take_more [] ys m h = let e : m ≡ m - 0 = omega arith in ap (λ k. take k ys) e
-    take_more (x ∷ xs) ys zero h = absurd (omega arith)
-    take_more (x ∷ xs) ys (suc m) h = let e : m - length xs ≡ suc m - suc (length xs) = omega arith in ap (λ t. x ∷ t) (take_more xs ys m (omega arith) ∙ ap (λ k. xs ++ take k ys) e)

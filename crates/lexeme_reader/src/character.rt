@@ -1,4 +1,5 @@
 ghost use Rattle.std.specs.Prelude.{◌≡◌, ◌<◌, ◌≤◌, length, drop, MatchOption};
+ghost use Rattle.std.specs.Char.{encode_utf8};
 ghost use Rattle.std.specs.Str.{IsUtf8};
 ghost use Rattle.line_splice.specs.Cursor.{text_of, rest};
 ghost use Rattle.scan_model.specs.Tokens.{bytes};
@@ -48,6 +49,15 @@ pub fn character(at: &Cursor<'_>) -> Option<char>
         Some(byte) if byte < 128 => Some(char::from(byte)),
         _ => encoded_character(at),
     }
+}
+
+// Passes the character that stands here.
+pub fn pass_found(at: &mut Cursor<'_>, found: char)
+    requires { BeginsWith found (bytes (rest at.old)) }
+    ensures text { text_of at.new ≡ text_of at.old }
+    ensures rest { rest at.new ≡ drop (length (encode_utf8 found)) (rest at.old) }
+{
+    pass_bytes(at, found.len_utf8());
 }
 
 // How many bytes the character takes that stands here, or 1 where none does.

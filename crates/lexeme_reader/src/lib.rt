@@ -3,6 +3,10 @@
 #![tactic(auto)]
 
 mod character;
+mod name;
+mod number;
 mod steps;
 
 pub use character::pass_character;
+pub use name::{begins_name, pass_name};
+pub use number::{begins_number, pass_number};
