@@ -10,3 +10,4 @@ mod steps;
 pub use character::pass_character;
 pub use name::{begins_name, pass_name};
 pub use number::{begins_number, pass_number};
+pub use steps::pass_bytes;

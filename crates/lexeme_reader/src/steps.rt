@@ -3,7 +3,7 @@ ghost use Rattle.line_splice.specs.Cursor.{text_of, rest};
 
 use line_splice::Cursor;
 
-// Passes the next bytes.
+/// Passes the next bytes that show.
 pub fn pass_bytes(at: &mut Cursor<'_>, count: usize)
     requires { count ≤ length (rest at.old) }
     ensures text { text_of at.new ≡ text_of at.old }

@@ -13,3 +13,4 @@ pub mod QuoteLemmas
 pub mod HeaderLemmas
 pub mod MarkLemmas
 pub mod PassedLemmas
+pub mod UnquotedLemmas

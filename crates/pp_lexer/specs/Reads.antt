@@ -1,8 +1,9 @@
 -- How what the lexer's functions return stands to the definitions.
 use lib.Pointwise.{pointwise}
-use Rattle.std.specs.Prelude.{◌≡◌, ◌≢◌, nat_eq, if◌then◌else◌, ◌-◌, take, drop, length, ℕ, Bool, ◌⊎◌, true, false, slice_index, ◌&&◌, ◌||◌, ◌==◌, List, [], ◌∷◌, Option, Some, None}
+use Rattle.std.specs.Prelude.{◌≡◌, ◌≢◌, nat_eq, if◌then◌else◌, nat_lt, ◌-◌, take, drop, length, ℕ, Bool, ◌⊎◌, true, false, slice_index, ◌&&◌, ◌||◌, ◌==◌, List, [], ◌∷◌, Option, Some, None}
 use Rattle.std.specs.Char.{is_ascii_digit}
 use Rattle.scan_model.specs.declared.token.Kind.{Kind}
+use Rattle.scan_model.specs.declared.token.Kind.TheVariants.{Punct, Stray}
 use Rattle.scan_model.specs.declared.token.Tok.{Tok}
 use Rattle.scan_model.specs.Spelling.{is_continue, is_blank, is_one_of, punctuators, longest}
 use Rattle.pp_lexer.specs.declared.runs.Run.{Run}
@@ -10,8 +11,9 @@ use Rattle.pp_lexer.specs.declared.runs.Run.TheVariants.{Word, Number}
 use Rattle.pp_lexer.specs.declared.spellings.Dot.{Dot}
 use Rattle.pp_lexer.specs.declared.spellings.Dot.TheVariants.{BeforeDigit, Three, One}
 use Rattle.scan_model.specs.Spliced.{Spot}
-use Rattle.scan_model.specs.Tokens.{Lexeme, bytes, after_blanks, is_lone_less, lexeme, next_token}
+use Rattle.scan_model.specs.Tokens.{Lexeme, bytes, cut, after_blanks, is_token, kind_of, is_lone_less, lexeme, next_token}
 use Rattle.scan_model.specs.Lines.{tok}
+use Rattle.lexeme_reader.specs.Fronts.{line, character_len}
 
 -- the token after `before` where the spots stand, and what is left after it
 abbrev pub GivesToken : List ℕ → List Tok → List Spot → Option Tok → List Spot → Type 0
@@ -77,3 +79,16 @@ passed before after = take (length before - length after) before
 -- the second cursor stands at a byte further on, or at the same one
 abbrev pub IsAhead : List Spot → List Spot → Type 0
 IsAhead before after = (after ≢ []) × (after ≡ drop (length before - length after) before)
+
+-- the lexeme has the kind, is spelled by all that shows between the two cursors, and leaves what the second one shows
+abbrev pub GivesShown : Lexeme → Kind → List Spot → List Spot → Type 0
+GivesShown l kind before after = l ≡ record { kind = kind; text = bytes (passed before after); left = after }
+
+-- the token that stands here where no header name is wanted and no quote opens
+abbrev pub unquoted : List Spot → Lexeme
+unquoted spots =
+    let s = line spots in
+    let n = longest is_token s in
+    let token = cut (kind_of (take n s)) n spots in
+    let stray = cut Stray (character_len s) spots in
+    if is_lone_less s then cut Punct 1 spots else if nat_lt 0 n then token else stray

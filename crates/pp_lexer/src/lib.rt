@@ -11,6 +11,7 @@ mod plain;
 mod runs;
 mod spellings;
 mod tokens;
+mod unquoted;
 
 pub use logical_lines::lines;
 pub use plain::first_not_plain;
