@@ -14,3 +14,4 @@ pub mod HeaderLemmas
 pub mod MarkLemmas
 pub mod PassedLemmas
 pub mod UnquotedLemmas
+pub mod RuleLemmas

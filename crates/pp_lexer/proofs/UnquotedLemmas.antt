@@ -51,14 +51,14 @@ line_bytes s n le = sym (bytes-take s n) ∙ sym (take-rest_of_line (bytes s) n 
 -- ## The choice
 
 -- `<` stands first
-lone_first : (s : List ℕ) → is_lone_less s ≡ true → first s ≡ 60
+pub lone_first : (s : List ℕ) → is_lone_less s ≡ true → first s ≡ 60
 unfolding is_lone_less
 lone_first [] h = absurd (true≢false (sym h))
 lone_first (c ∷ s) h =
     let front = (and_parts (starts_with nat_eq (c ∷ s) (codes "<::")) _ h).0 in
     sym (eqb-true 60 c (and_parts (60 == c) (pointwise nat_eq (58 ∷ 58 ∷ []) (take 2 s)) front).0)
 
-less_word : (c : ℕ) → c ≡ 60 → begins_word c ≡ false
+pub less_word : (c : ℕ) → c ≡ 60 → begins_word c ≡ false
 unfolding is_start
 less_word c e = ap begins_word e
 
@@ -72,7 +72,7 @@ digits_lone s h = false_from_ne_true (is_lone_less s) (λ e.
     less_digits : (c d : ℕ) → c ≡ 60 → (is_ascii_digit c || (c == 46 && is_ascii_digit d)) ≡ false
     less_digits c d e = ap (λ c. is_ascii_digit c || (c == 46 && is_ascii_digit d)) e
 
-token_chosen : (spots : List Spot) (n : ℕ) (kind : Kind) → is_lone_less (line spots) ≡ false → longest is_token (line spots) ≡ n → 0 < n → kind_of (take n (line spots)) ≡ kind
+pub token_chosen : (spots : List Spot) (n : ℕ) (kind : Kind) → is_lone_less (line spots) ≡ false → longest is_token (line spots) ≡ n → 0 < n → kind_of (take n (line spots)) ≡ kind
     → unquoted spots ≡ cut kind n spots
 token_chosen spots n kind lone len some is =
     let found : nat_lt 0 (longest is_token (line spots)) ≡ true = ap (nat_lt 0) len ∙ lt-ltb 0 n some in
