@@ -1,7 +1,5 @@
 pub mod PlainLemmas
 pub mod TokenLemmas
-pub mod RunLemmas
-pub mod LexemeLemmas
 pub mod LinesLemmas
 pub mod CommentLemmas
 pub mod ClassLemmas

@@ -1,8 +1,12 @@
 -- What shows between two cursors, byte by byte.
-use Rattle.std.proofs.Common.{◌≡◌, ◌≢◌, ℕ, zero, suc, ◌+◌, ◌-◌, ◌<◌, ◌≤◌, Bool, true, false, ◌==◌, nat_le, List, [], ◌∷◌, ◌++◌, refl, ap, sym, ◌∙◌, subst, inl, inr, take, drop, length, length-drop, length-take, slice_set, arith}
+use Rattle.std.proofs.Common.{◌≡◌, ◌≢◌, ℕ, zero, suc, ◌+◌, ◌-◌, ◌<◌, ◌≤◌, Bool, true, false, ◌==◌, nat_le, List, [], ◌∷◌, ◌++◌, refl, ap, sym, ◌∙◌, subst, inl, inr, take, drop, length, length-drop, length-take, slice_set, arith, cond, ◌||◌, Some, is_some}
 use Rattle.std.proofs.lemmas.Bool.{cases_lt, leb-true, false_from_ne_true}
 use Rattle.std.proofs.lemmas.List.{drop-drop, append_assoc}
 use Rattle.std.specs.Prelude.{unwrap_or}
+use Rattle.std.specs.Option.{option_map}
+use Rattle.std.specs.List.{find, list_any}
+use Rattle.word_table.specs.Rows.{value_of, has_word}
+use Rattle.word_table.specs.Tables.{operator_words}
 use Rattle.line_splice.specs.declared.cursor.Cursor.{Cursor}
 use Rattle.line_splice.specs.Cursor.{rest}
 use Rattle.scan_model.specs.Spliced.{Spot, byte_at, place_at}
@@ -70,6 +74,14 @@ passed_more s u v front whole more along next some same =
     ∙ ap (λ b. front ++ b) (sym (bytes-take_more s i) ∙ ap (λ k. bytes (take k s)) (sym (along_more s u v along next some).1))
 
 -- ## Alternative words
+
+found_any : {A B : Type 0} (f : A → B) (p : A → Bool) (xs : List A) → is_some (option_map f (find p xs)) ≡ list_any p xs
+found_any f p [] = refl
+found_any f p (x ∷ xs) = elim (p x) as (λ b. is_some (option_map f (cond b (Some x) (find p xs))) ≡ (b || list_any p xs)) [ true ↦ refl | false ↦ found_any f p xs ]
+
+pub alternative_found : (s : List ℕ) → is_some (option_map value_of (find (has_word s) operator_words)) ≡ is_alternative s
+unfolding is_alternative
+alternative_found s = found_any value_of (has_word s) operator_words
 
 -- no alternative word has more than six bytes
 pub long_word : (b : List ℕ) → 7 ≤ length b → is_alternative b ≡ false

@@ -4,12 +4,12 @@
 
 mod blanks;
 mod header_names;
+mod lexeme;
 mod logical_lines;
 mod marks;
 mod passed;
 mod plain;
-mod runs;
-mod spellings;
+
 mod tokens;
 mod unquoted;
 

@@ -1,11 +1,13 @@
-ghost use Rattle.std.specs.Prelude.{◌≡◌, IfOk, OnOk};
+ghost use Rattle.std.specs.Prelude.{◌≡◌, ◌≢◌, Some, IfOk, OnErr, MatchOption};
 ghost use Rattle.line_splice.specs.Cursor.{text_of, rest};
-ghost use Rattle.scan_model.specs.Tokens.{bytes};
-ghost use Rattle.pp_lexer.specs.Plain.{IsPlain};
+ghost use Rattle.scan_model.specs.Spliced.{byte_at};
+ghost use Rattle.scan_model.specs.Tokens.{lexeme};
+ghost use Rattle.pp_lexer.specs.Lexemes.{GivesLexeme, IsSpelled};
 ghost use Rattle.pp_lexer.specs.Reads.{GivesToken, is_nil, line_here};
 
 use crate::blanks::pass_blanks;
-use crate::spellings::spelling;
+use crate::lexeme::{Found, Spelling, pass_lexeme};
+use crate::passed::push_passed;
 use line_splice::Cursor;
 use scan_model::{Bytes, NoMemory, Tok};
 use std::alloc::Global;
@@ -29,28 +31,15 @@ fn line_here(before: &[Tok], line: u32) -> u32
     }
 }
 
-// The token that stands here after `before`, or none where a newline or the end comes first.
-pub fn token(alloc: Global, at: &mut Cursor<'_>, before: &[Tok]) -> Result<Option<Tok>, NoMemory>
-    requires { IsPlain (bytes (rest at.old)) }
-    ensures text { text_of at.new ≡ text_of at.old }
-    ensures plain { OnOk result (IsPlain (bytes (rest at.new))) }
-    ensures token { IfOk result (λ t. GivesToken (text_of at.old) before.now (rest at.old) t (rest at.new)) }
+// The spelling of the token that was found between the two cursors.
+fn spelled(alloc: Global, from: &Cursor<'_>, found: &Found, to: &Cursor<'_>) -> Result<Vec<u8>, NoMemory>
+    requires text { text_of to.now ≡ text_of from.now }
+    requires found { IsSpelled found.now (rest from.now) (rest to.now) }
+    ensures { IfOk result (λ v. v.items ≡ spelling_of found.now (rest from.now) (rest to.now)) }
 {
-    let space = pass_blanks(at) | is_nil(before);
-    let line = line_here(before, at.line());
-    match at.peek() {
-        Some(byte) => {
-            if byte == b'\n' {
-                return Ok(None);
-            }
-            let (kind, text) = spelling(alloc, at, byte)?;
-            Ok(Some(Tok {
-                kind,
-                text: Bytes::of_vec(text),
-                space,
-                line,
-            }))
-        }
-        None => Ok(None),
+    let mut text = Vec::new(alloc);
+    match found.spelling {
+        Spelling::Shown => push_passed(&mut text, from, to)?,
     }
+    Ok(text)
 }
