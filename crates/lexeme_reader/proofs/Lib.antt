@@ -6,3 +6,5 @@ pub mod FrontLemmas
 pub mod PassLemmas
 pub mod NameLemmas
 pub mod NumberLemmas
+pub mod AlongLemmas
+pub mod QuotedLemmas

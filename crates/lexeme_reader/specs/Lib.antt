@@ -3,3 +3,4 @@ pub mod Fronts
 pub mod Names
 pub mod Numbers
 pub mod Passes
+pub mod Quotes

@@ -5,9 +5,11 @@
 mod character;
 mod name;
 mod number;
+mod quoted;
 mod steps;
 
 pub use character::pass_character;
 pub use name::{begins_name, pass_name};
 pub use number::{begins_number, pass_number};
+pub use quoted::{Opening, Quote, literal_at, pass_quoted};
 pub use steps::pass_bytes;
