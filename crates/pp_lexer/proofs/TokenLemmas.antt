@@ -1,6 +1,6 @@
 -- From the lexeme to the token.
-use Rattle.std.proofs.Common.{◌≡◌, ℕ, suc, ◌<◌, ◌≤◌, Bool, true, false, cond, ◌==◌, ◌||◌, nat_lt, List, [], ◌∷◌, refl, ap, sym, ◌∙◌, length, arith, Some, None}
-use Rattle.std.proofs.lemmas.Bool.{cases_Bool, ne_eqb, eq-eqb, le-ltb, lt-ltb}
+use Rattle.std.proofs.Common.{◌≡◌, ℕ, suc, ◌<◌, ◌≤◌, Bool, true, false, cond, ◌==◌, ◌||◌, not, nat_lt, inl, inr, List, [], ◌∷◌, refl, ap, sym, ◌∙◌, length, arith, Some, None}
+use Rattle.std.proofs.lemmas.Bool.{cases_Bool, lt-ltb, ltb-false}
 use Rattle.lexeme_reader.specs.Fronts.{line}
 use Rattle.scan_model.specs.declared.token.Kind.{Kind}
 use Rattle.scan_model.specs.declared.token.Tok.{Tok}
@@ -12,35 +12,45 @@ use Rattle.pp_lexer.specs.Reads.{is_nil, line_here}
 
 -- ## From the lexeme to the token
 
--- something stands on the line
-pub line_some : (s : List Spot) (c : ℕ) → byte_at s ≡ Some c → (c ≡ 10 → ⊥) → 0 < length (line s)
-line_some [] c here other = cc
-line_some (x ∷ s) c here other =
-    let same : x.byte ≡ c = cc in
-    let len : length (line (x ∷ s)) ≡ suc (length (line s)) = ap length (rest_of_line-cons x.byte (bytes s) (ne_eqb x.byte 10 (λ z. other (sym same ∙ z)))) in
-    omega (arith, len)
+-- ## Whether something stands on the line
 
-pub token_some : (text : List ℕ) (before : List Tok) (s at : List Spot) (c : ℕ) (l : Lexeme) → at ≡ after_blanks s → byte_at at ≡ Some c → (c ≡ 10 → ⊥) → lexeme text before at ≡ l
+pub on_line : (s : List Spot) (c : ℕ) → byte_at s ≡ Some c → not (c == 10) ≡ nat_lt 0 (length (line s))
+on_line [] c here = cc
+on_line (x ∷ s) c here =
+    let same : c ≡ x.byte = cc in
+    ap (λ b. not (b == 10)) same ∙ elim (cases_Bool (x.byte == 10)) [
+      | inl e ↦ ap not e ∙ ap (λ b. nat_lt 0 (length b)) (sym (rest_of_line-newline x.byte (bytes s) e))
+      | inr e ↦
+          let len : length (line (x ∷ s)) ≡ suc (length (line s)) = ap length (rest_of_line-cons x.byte (bytes s) e) in
+          ap not e ∙ sym (lt-ltb 0 (length (line (x ∷ s))) (omega (arith, len)))
+    ]
+
+pub on_line_end : (s : List Spot) → byte_at s ≡ None → false ≡ nat_lt 0 (length (line s))
+on_line_end [] here = ap (λ b. nat_lt 0 (length b)) (sym rest_of_line-nil)
+on_line_end (x ∷ s) here = cc
+
+pub token_some : (text : List ℕ) (before : List Tok) (s at : List Spot) (l : Lexeme) → at ≡ after_blanks s → 0 < length (line at) → lexeme text before at ≡ l
     → next_token text before s ≡ Some l
 unfolding next_token
-token_some text before s at c l e here ne is = ap (token_at text before) (sym e) ∙ some at here is where
-  some : (at : List Spot) → byte_at at ≡ Some c → lexeme text before at ≡ l → token_at text before at ≡ Some l
-  some [] here is = cc
-  some (x ∷ at) here is = let same : x.byte ≡ c = cc in let other : (x.byte == 10) ≡ false = ne_eqb x.byte 10 (λ z. ne (sym same ∙ z)) in rw other (ap Some is)
+token_some text before s at l e here is = ap (token_at text before) (sym e) ∙ some at here is where
+  some : (at : List Spot) → 0 < length (line at) → lexeme text before at ≡ l → token_at text before at ≡ Some l
+  some [] here is = let z : length (line []) ≡ 0 = ap length rest_of_line-nil in absurd (omega (arith, here, z))
+  some (x ∷ at) here is = elim (cases_Bool (x.byte == 10)) [
+    | inl e ↦ let z : length (line (x ∷ at)) ≡ 0 = ap length (rest_of_line-newline x.byte (bytes at) e) in absurd (omega (arith, here, z))
+    | inr e ↦ rw e (ap Some is)
+  ]
 
-pub token_newline : (text : List ℕ) (before : List Tok) (s at : List Spot) (c : ℕ) → at ≡ after_blanks s → byte_at at ≡ Some c → c ≡ 10 → next_token text before s ≡ None
+pub token_none : (text : List ℕ) (before : List Tok) (s at : List Spot) → at ≡ after_blanks s → nat_lt 0 (length (line at)) ≡ false → next_token text before s ≡ None
 unfolding next_token
-token_newline text before s at c e here lf = ap (token_at text before) (sym e) ∙ none at here where
-  none : (at : List Spot) → byte_at at ≡ Some c → token_at text before at ≡ None
+token_none text before s at e here = ap (token_at text before) (sym e) ∙ none at here where
+  none : (at : List Spot) → nat_lt 0 (length (line at)) ≡ false → token_at text before at ≡ None
   none [] here = refl
-  none (x ∷ at) here = let same : x.byte ≡ 10 = cc in rw same refl
-
-pub token_end : (text : List ℕ) (before : List Tok) (s at : List Spot) → at ≡ after_blanks s → byte_at at ≡ None → next_token text before s ≡ None
-unfolding next_token
-token_end text before s at e here = ap (token_at text before) (sym e) ∙ none at here where
-  none : (at : List Spot) → byte_at at ≡ None → token_at text before at ≡ None
-  none [] here = refl
-  none (x ∷ at) here = cc
+  none (x ∷ at) here = elim (cases_Bool (x.byte == 10)) [
+    | inl e ↦ rw e refl
+    | inr e ↦
+        let len : length (line (x ∷ at)) ≡ suc (length (line at)) = ap length (rest_of_line-cons x.byte (bytes at) e) in
+        let z = ltb-false 0 (length (line (x ∷ at))) here in absurd (omega (arith, len, z))
+  ]
 
 -- the token, by what the code has found
 pub tok_is : (text : List ℕ) (before : List Tok) (s at left : List Spot) (kind : Kind) (b : List ℕ) (space : Bool) (line : ℕ) → at ≡ after_blanks s

@@ -7,7 +7,7 @@ use Rattle.scan_model.specs.declared.token.Kind.TheVariants.{Punct, Stray}
 use Rattle.scan_model.specs.declared.token.Tok.{Tok}
 use Rattle.scan_model.specs.Spelling.{is_continue, is_blank, is_one_of, punctuators, longest}
 use Rattle.scan_model.specs.Spliced.{Spot}
-use Rattle.scan_model.specs.Tokens.{Lexeme, bytes, cut, after_blanks, is_token, kind_of, is_lone_less, lexeme, next_token}
+use Rattle.scan_model.specs.Tokens.{Lexeme, bytes, cut, after_blanks, is_token, kind_of, is_open, is_lone_less, lexeme, next_token}
 use Rattle.scan_model.specs.Lines.{tok}
 use Rattle.lexeme_reader.specs.Fronts.{line, character_len}
 
@@ -56,3 +56,7 @@ unquoted spots =
     let token = cut (kind_of (take n s)) n spots in
     let stray = cut Stray (character_len s) spots in
     if is_lone_less s then cut Punct 1 spots else if nat_lt 0 n then token else stray
+
+-- the token that stands here where neither a header name is wanted nor a raw string opens
+abbrev pub not_raw : List Spot → Lexeme
+not_raw spots = if is_open (line spots) then cut Stray (length (line spots)) spots else unquoted spots

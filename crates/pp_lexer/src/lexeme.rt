@@ -1,9 +1,15 @@
-ghost use Rattle.std.specs.Prelude.{◌≡◌, ◌<◌, length};
+ghost use Rattle.std.specs.Prelude.{◌≡◌, ◌<◌, ◌&&◌, nat_lt, length, drop, IsTrue, IsFalse};
 ghost use Rattle.line_splice.specs.Cursor.{text_of, rest};
 ghost use Rattle.lexeme_reader.specs.Fronts.{line};
-ghost use Rattle.scan_model.specs.Tokens.{lexeme};
-ghost use Rattle.pp_lexer.specs.Lexemes.{GivesLexeme};
+ghost use Rattle.lexeme_reader.specs.Quotes.{quote_byte, other_quote};
+ghost use Rattle.scan_model.specs.Spelling.{is_header, opens, longest};
+ghost use Rattle.scan_model.specs.Tokens.{wants_header, lexeme};
+ghost use Rattle.pp_lexer.specs.Reads.{GivesShown, IsAhead, not_raw};
+ghost use Rattle.pp_lexer.specs.Lexemes.{literal_kind, IsSpelled, GivesLexeme};
 
+use crate::header_names::wants_header;
+use crate::unquoted::pass_unquoted;
+use lexeme_reader::{Quote, pass_quoted};
 use line_splice::Cursor;
 use scan_model::{Kind, Tok};
 
@@ -21,9 +27,34 @@ pub struct Found {
     pub spelling: Spelling,
 }
 
+fn literal_kind(quote: Quote, closed: bool) -> Kind
+    ensures { result ≡ literal_kind quote closed }
+{
+    match quote {
+        _ if !closed => Kind::Stray,
+        Quote::Single => Kind::Char,
+        Quote::Double => Kind::Str,
+    }
+}
+
+// Passes the literal that opens here in these quotes, or the rest of its line where it isn't closed on it.
+fn pass_literal(at: &mut Cursor<'_>, quote: Quote) -> Kind
+    requires some { 0 < length (line (rest at.old)) }
+    requires opens { IsTrue (opens (quote_byte quote) (line (rest at.old))) }
+    requires other { IsFalse (opens (quote_byte (other_quote quote)) (line (rest at.old))) }
+    ensures text { text_of at.new ≡ text_of at.old }
+    ensures ahead { IsAhead (rest at.old) (rest at.new) }
+    ensures lexeme { GivesShown (not_raw (rest at.old)) result (rest at.old) (rest at.new) }
+{
+    let closed = pass_quoted(at, quote);
+    literal_kind(quote, closed)
+}
+
+/// Passes the token that stands here, after these tokens of its line ([lex.pptoken]). No memory is taken.
 pub fn pass_lexeme(at: &mut Cursor<'_>, before: &[Tok]) -> Found
     requires { 0 < length (line (rest at.old)) }
     ensures text { text_of at.new ≡ text_of at.old }
+    ensures spelling { IsSpelled result (rest at.old) (rest at.new) }
     ensures lexeme { GivesLexeme (lexeme (text_of at.old) before.now (rest at.old)) result (rest at.old) (rest at.new) }
 {
     Found { kind: Kind::Stray, spelling: Spelling::Shown }

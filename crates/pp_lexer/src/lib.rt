@@ -1,5 +1,4 @@
-//! The preprocessing tokens of a text by logical lines, for now of plain texts: those of letters, digits, `_`, blanks,
-//! newlines and the punctuators `; . ( ) { }`.
+//! The preprocessing tokens of a text, one by one and by logical lines ([lex.pptoken]).
 #![tactic(auto)]
 
 mod blanks;
@@ -15,6 +14,7 @@ mod unquoted;
 
 pub use logical_lines::lines;
 pub use plain::first_not_plain;
+pub use tokens::token;
 
 #[cfg(test)]
 mod tests;

@@ -1,8 +1,7 @@
-ghost use Rattle.std.specs.Prelude.{◌≡◌, ◌≢◌, Some, IfOk, OnErr, MatchOption};
+ghost use Rattle.std.specs.Prelude.{◌≡◌, ◌<◌, nat_lt, length, IfOk, OnErr};
 ghost use Rattle.line_splice.specs.Cursor.{text_of, rest};
-ghost use Rattle.scan_model.specs.Spliced.{byte_at};
-ghost use Rattle.scan_model.specs.Tokens.{lexeme};
-ghost use Rattle.pp_lexer.specs.Lexemes.{GivesLexeme, IsSpelled};
+ghost use Rattle.lexeme_reader.specs.Fronts.{line};
+ghost use Rattle.pp_lexer.specs.Lexemes.{IsSpelled, spelling_of};
 ghost use Rattle.pp_lexer.specs.Reads.{GivesToken, is_nil, line_here};
 
 use crate::blanks::pass_blanks;
@@ -31,15 +30,61 @@ fn line_here(before: &[Tok], line: u32) -> u32
     }
 }
 
+// Whether a byte other than a newline stands here.
+fn is_on_line(at: &Cursor<'_>) -> bool
+    ensures { result ≡ nat_lt 0 (length (line (rest at.now))) }
+{
+    match at.peek() {
+        Some(byte) => byte != b'\n',
+        None => false,
+    }
+}
+
 // The spelling of the token that was found between the two cursors.
-fn spelled(alloc: Global, from: &Cursor<'_>, found: &Found, to: &Cursor<'_>) -> Result<Vec<u8>, NoMemory>
+fn spelled(alloc: Global, from: &Cursor<'_>, found: Found, to: &Cursor<'_>) -> Result<Vec<u8>, NoMemory>
     requires text { text_of to.now ≡ text_of from.now }
-    requires found { IsSpelled found.now (rest from.now) (rest to.now) }
-    ensures { IfOk result (λ v. v.items ≡ spelling_of found.now (rest from.now) (rest to.now)) }
+    requires spelling { IsSpelled found (rest from.now) (rest to.now) }
+    ensures { IfOk result (λ v. v.items ≡ spelling_of found.spelling (rest from.now) (rest to.now)) }
 {
     let mut text = Vec::new(alloc);
     match found.spelling {
         Spelling::Shown => push_passed(&mut text, from, to)?,
     }
     Ok(text)
+}
+
+/// The next token after the tokens `before` of its line, with its line and whether space stands before it
+/// ([lex.pptoken]). White space and comments are passed first. `at` is a cursor over the text, directly after the last of
+/// those tokens, or at the start of a line where there are none; it then stands directly after the token. None exactly
+/// where a newline outside comments, or the end, comes first; `at` then stands there. `Err` is want of memory, and leaves
+/// `at` as it was.
+pub fn token(
+    alloc: Global,
+    text: &[u8],
+    at: &mut Cursor<'_>,
+    before: &[Tok],
+) -> Result<Option<Tok>, NoMemory>
+    requires { text_of at.old ≡ text.now }
+    ensures text { text_of at.new ≡ text_of at.old }
+    ensures token { IfOk result (λ t. GivesToken text.now before.now (rest at.old) t (rest at.new)) }
+    ensures err { OnErr result (rest at.new ≡ rest at.old) }
+{
+    let _text = text;
+    let mut next = *at;
+    let space = pass_blanks(&mut next) | is_nil(before);
+    if !is_on_line(&next) {
+        *at = next;
+        return Ok(None);
+    }
+    let line = line_here(before, next.line());
+    let from = next;
+    let found = pass_lexeme(&mut next, before);
+    let spelling = spelled(alloc, &from, found, &next)?;
+    *at = next;
+    Ok(Some(Tok {
+        kind: found.kind,
+        text: Bytes::of_vec(spelling),
+        space,
+        line,
+    }))
 }
