@@ -8,3 +8,4 @@ pub mod NameLemmas
 pub mod NumberLemmas
 pub mod AlongLemmas
 pub mod QuotedLemmas
+pub mod HeaderLemmas

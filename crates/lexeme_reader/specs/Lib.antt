@@ -1,5 +1,6 @@
 pub mod Character
 pub mod Fronts
+pub mod Headers
 pub mod Names
 pub mod Numbers
 pub mod Passes

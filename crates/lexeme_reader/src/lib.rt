@@ -3,12 +3,14 @@
 #![tactic(auto)]
 
 mod character;
+mod header;
 mod name;
 mod number;
 mod quoted;
 mod steps;
 
 pub use character::pass_character;
+pub use header::pass_header;
 pub use name::{begins_name, pass_name};
 pub use number::{begins_number, pass_number};
 pub use quoted::{Opening, Quote, literal_at, pass_quoted};
