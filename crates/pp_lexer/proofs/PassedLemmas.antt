@@ -42,7 +42,7 @@ stops at t u text ahead along le higher = elim (cases_lt (length t) (length u)) 
       let j = length s - length t in
       let t_len : length t ≡ length (drop j s) = ap length ahead.1 in
       let u_len : length u ≡ length (drop i s) = ap length along in
-      let some : 0 < length t = not_empty t ahead.0 in
+      let some : 0 < length t = not_empty t s ahead.0 (omega (arith, lt, u_len, length-drop i s)) in
       let lower : place_at text (drop i s) < place_at text (drop j s) =
           place_later at i j text (omega (arith, t_len, u_len, length-drop i s, length-drop j s)) (omega (arith, t_len, some, length-drop j s)) in
       let here : place_at text u ≡ place_at text (drop i s) = ap (place_at text) along in
@@ -52,9 +52,9 @@ stops at t u text ahead along le higher = elim (cases_lt (length t) (length u)) 
       let len : length u ≡ length t = omega arith in
       along ∙ ap (λ k. drop (length (rest at) - k) (rest at)) len ∙ sym ahead.1
 ] where
-  not_empty : (t : List Spot) → t ≢ [] → 0 < length t
-  not_empty [] h = absurd (h refl)
-  not_empty (x ∷ t) h = omega arith
+  not_empty : (t s : List Spot) → (t ≡ [] → s ≡ []) → 0 < length s → 0 < length t
+  not_empty [] s h some = let z : length s ≡ 0 = ap length (h refl) in absurd (omega (arith, z, some))
+  not_empty (x ∷ t) s h some = omega arith
 
 -- one byte further
 pub along_more : (s u v : List Spot) → IsAlong s u → v ≡ drop 1 u → 0 < length u → (IsAlong s v) × (length s - length v ≡ (length s - length u) + 1)

@@ -33,7 +33,7 @@ line_ahead at n new some le is =
     let len : length new ≡ length (drop n s) = ap length is in
     let count : length s - length new ≡ n = omega (arith, len, le, within, length-drop n s) in
     (
-      (λ e. let z : length new ≡ 0 = ap length e in omega (arith, z, len, le, within, length-drop n s), is ∙ ap (λ k. drop k s) (sym count)),
+      (λ e. let z : length new ≡ 0 = ap length e in absurd (omega (arith, z, len, le, within, length-drop n s)), is ∙ ap (λ k. drop k s) (sym count)),
       ap (λ k. take k s) count,
     )
 

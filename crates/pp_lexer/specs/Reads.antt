@@ -1,6 +1,6 @@
 -- How what the lexer's functions return stands to the definitions.
 use lib.Pointwise.{pointwise}
-use Rattle.std.specs.Prelude.{◌≡◌, ◌≢◌, nat_eq, if◌then◌else◌, nat_lt, ◌-◌, take, drop, length, ℕ, Bool, ◌⊎◌, true, false, slice_index, ◌&&◌, ◌||◌, ◌==◌, List, [], ◌∷◌, Option, Some, None}
+use Rattle.std.specs.Prelude.{◌≡◌, nat_eq, if◌then◌else◌, nat_lt, ◌-◌, take, drop, length, ℕ, Bool, ◌⊎◌, true, false, slice_index, ◌&&◌, ◌||◌, ◌==◌, List, [], ◌∷◌, Option, Some, None}
 use Rattle.std.specs.Char.{is_ascii_digit}
 use Rattle.scan_model.specs.declared.token.Kind.{Kind}
 use Rattle.scan_model.specs.declared.token.Kind.TheVariants.{Punct, Stray}
@@ -40,9 +40,9 @@ mark_len s = if is_lone_less s then 1 else longest (is_one_of punctuators) s
 abbrev pub passed : List Spot → List Spot → List Spot
 passed before after = take (length before - length after) before
 
--- the second cursor stands at a byte further on, or at the same one
+-- the second cursor stands further on, but not past the last byte, or at the same place
 abbrev pub IsAhead : List Spot → List Spot → Type 0
-IsAhead before after = (after ≢ []) × (after ≡ drop (length before - length after) before)
+IsAhead before after = (after ≡ [] → before ≡ []) × (after ≡ drop (length before - length after) before)
 
 -- the lexeme has the kind, is spelled by all that shows between the two cursors, and leaves what the second one shows
 abbrev pub GivesShown : Lexeme → Kind → List Spot → List Spot → Type 0

@@ -9,7 +9,7 @@ ghost use Rattle.pp_lexer.specs.Lexemes.{literal_kind, IsSpelled, GivesLexeme};
 
 use crate::header_names::wants_header;
 use crate::unquoted::pass_unquoted;
-use lexeme_reader::{Quote, pass_quoted};
+use lexeme_reader::{Opening, Quote, literal_at, pass_header, pass_quoted};
 use line_splice::Cursor;
 use scan_model::{Kind, Tok};
 
@@ -25,6 +25,20 @@ pub enum Spelling {
 pub struct Found {
     pub kind: Kind,
     pub spelling: Spelling,
+}
+
+// Passes the header name that stands here, where one is tried after these tokens.
+fn pass_wanted_header(at: &mut Cursor<'_>, before: &[Tok]) -> bool
+    ensures text { text_of at.new ≡ text_of at.old }
+    ensures value { result ≡ (wants_header before.now && nat_lt 0 (longest is_header (line (rest at.old)))) }
+    ensures header { IsTrue result → rest at.new ≡ drop (longest is_header (line (rest at.old))) (rest at.old) }
+    ensures none { IsFalse result → rest at.new ≡ rest at.old }
+{
+    if wants_header(before) {
+        pass_header(at)
+    } else {
+        false
+    }
 }
 
 fn literal_kind(quote: Quote, closed: bool) -> Kind
