@@ -1,5 +1,5 @@
 -- The lexeme that a cursor has passed, by what the code answers.
-use Rattle.std.specs.Prelude.{◌≡◌, ℕ, Bool, true, false, List}
+use Rattle.std.specs.Prelude.{◌≡◌, ℕ, Bool, true, false, List, drop}
 use Rattle.scan_model.specs.declared.token.Kind.{Kind}
 use Rattle.scan_model.specs.declared.token.Kind.TheVariants.{Char, Str, Stray}
 use Rattle.scan_model.specs.Spliced.{Spot}
@@ -8,7 +8,11 @@ use Rattle.lexeme_reader.specs.declared.quoted.Quote.{Quote}
 use Rattle.lexeme_reader.specs.declared.quoted.Quote.TheVariants.{Single, Double}
 use Rattle.pp_lexer.specs.declared.lexeme.Found.{Found}
 use Rattle.pp_lexer.specs.declared.lexeme.Spelling.{Spelling}
-use Rattle.pp_lexer.specs.declared.lexeme.Spelling.TheVariants.{Shown}
+use Rattle.pp_lexer.specs.declared.lexeme.Spelling.TheVariants.{Shown, Raw}
+use Rattle.line_splice.specs.Cursor.{rest}
+use Rattle.lexeme_reader.specs.declared.raw.RawParts.{RawParts}
+use Rattle.lexeme_reader.specs.Raws as raws
+use Rattle.lexeme_reader.specs.Raws.{Fits, suffix_len}
 use Rattle.pp_lexer.specs.Reads.{passed, IsAhead}
 
 abbrev pub literal_kind : Quote → Bool → Kind
@@ -17,16 +21,22 @@ literal_kind Double true = Str
 literal_kind quote false = Stray
 
 -- the spelling of what has been passed between two cursors
-abbrev pub spelling_of : Spelling → List Spot → List Spot → List ℕ
-spelling_of Shown before after = bytes (passed before after)
+abbrev pub spelling_of : List ℕ → Spelling → List Spot → List Spot → List ℕ
+spelling_of text Shown before after = bytes (passed before after)
+spelling_of text (Raw parts) before after = raws.spelling_of parts text before
+
+-- a raw string's parts lie in the text, and the second cursor stands after its suffix
+abbrev pub FitsBetween : RawParts → List ℕ → List Spot → List Spot → Type 0
+FitsBetween parts text before after = Fits parts text before × (after ≡ drop (suffix_len parts) (rest parts.suffix))
 
 -- the two cursors stand as the spelling says
-abbrev pub CanSpell : Spelling → List Spot → List Spot → Type 0
-CanSpell Shown before after = IsAhead before after
+abbrev pub CanSpell : List ℕ → Spelling → List Spot → List Spot → Type 0
+CanSpell text Shown before after = IsAhead before after
+CanSpell text (Raw parts) before after = FitsBetween parts text before after
 
-abbrev pub IsSpelled : Found → List Spot → List Spot → Type 0
-IsSpelled found before after = CanSpell found.spelling before after
+abbrev pub IsSpelled : List ℕ → Found → List Spot → List Spot → Type 0
+IsSpelled text found before after = CanSpell text found.spelling before after
 
 -- the lexeme is what has been found between the two cursors, and leaves what the second one shows
-abbrev pub GivesLexeme : Lexeme → Found → List Spot → List Spot → Type 0
-GivesLexeme l found before after = l ≡ record { kind = found.kind; text = spelling_of found.spelling before after; left = after }
+abbrev pub GivesLexeme : List ℕ → Lexeme → Found → List Spot → List Spot → Type 0
+GivesLexeme text l found before after = l ≡ record { kind = found.kind; text = spelling_of text found.spelling before after; left = after }

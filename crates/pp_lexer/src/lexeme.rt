@@ -2,29 +2,43 @@ ghost use Rattle.std.specs.Prelude.{◌≡◌, ◌<◌, ◌&&◌, nat_lt, length
 ghost use Rattle.line_splice.specs.Cursor.{text_of, rest};
 ghost use Rattle.lexeme_reader.specs.Fronts.{line};
 ghost use Rattle.lexeme_reader.specs.Quotes.{quote_byte, other_quote};
-ghost use Rattle.scan_model.specs.Spelling.{is_header, opens, longest};
-ghost use Rattle.scan_model.specs.Tokens.{wants_header, lexeme};
+ghost use Rattle.scan_model.specs.Spelling.{is_header, opens, opens_raw, longest};
+ghost use Rattle.scan_model.specs.Tokens.{wants_header, raw_lexeme, lexeme};
 ghost use Rattle.pp_lexer.specs.Reads.{GivesShown, IsAhead, not_raw};
 ghost use Rattle.pp_lexer.specs.Lexemes.{literal_kind, IsSpelled, GivesLexeme};
 
 use crate::header_names::wants_header;
 use crate::unquoted::pass_unquoted;
-use lexeme_reader::{Opening, Quote, literal_at, pass_header, pass_quoted};
+use lexeme_reader::{
+    Opening, Quote, RawParts, RawSpelling, literal_at, pass_header, pass_quoted, pass_raw,
+};
 use line_splice::Cursor;
 use scan_model::{Kind, Tok};
 
 /// How a token that a cursor has passed is spelled.
 #[derive(Clone, Copy)]
-pub enum Spelling {
+pub enum Spelling<'a> {
     /// By all bytes that show between where the cursor stood and where it stands.
     Shown,
+    /// As a raw string, whose inside is spelled as it is written.
+    Raw(RawParts<'a>),
 }
 
 /// A token that a cursor has passed.
 #[derive(Clone, Copy)]
-pub struct Found {
+pub struct Found<'a> {
     pub kind: Kind,
-    pub spelling: Spelling,
+    pub spelling: Spelling<'a>,
+}
+
+fn shown<'a>(kind: Kind) -> Found<'a>
+    ensures kind { result.kind ≡ kind }
+    ensures spelling { result.spelling ≡ Spelling.Shown }
+{
+    Found {
+        kind,
+        spelling: Spelling::Shown,
+    }
 }
 
 // Passes the header name that stands here, where one is tried after these tokens.
@@ -64,12 +78,36 @@ fn pass_literal(at: &mut Cursor<'_>, quote: Quote) -> Kind
     literal_kind(quote, closed)
 }
 
+// Passes the token that `R"` begins, after a prefix or none.
+fn pass_raw_string<'a>(at: &mut Cursor<'a>) -> Found<'a>
+    requires some { 0 < length (line (rest at.old)) }
+    requires opens { IsTrue (opens_raw (line (rest at.old))) }
+    ensures text { text_of at.new ≡ text_of at.old }
+    ensures spelling { IsSpelled (text_of at.old) result (rest at.old) (rest at.new) }
+    ensures lexeme { GivesLexeme (text_of at.old) (raw_lexeme (text_of at.old) (rest at.old)) result (rest at.old) (rest at.new) }
+{
+    match pass_raw(at) {
+        RawSpelling::Shown => shown(Kind::Stray),
+        RawSpelling::Written(parts) => Found {
+            kind: if parts.closed { Kind::Str } else { Kind::Stray },
+            spelling: Spelling::Raw(parts),
+        },
+    }
+}
+
 /// Passes the token that stands here, after these tokens of its line ([lex.pptoken]). No memory is taken.
-pub fn pass_lexeme(at: &mut Cursor<'_>, before: &[Tok]) -> Found
+pub fn pass_lexeme<'a>(at: &mut Cursor<'a>, before: &[Tok]) -> Found<'a>
     requires { 0 < length (line (rest at.old)) }
     ensures text { text_of at.new ≡ text_of at.old }
-    ensures spelling { IsSpelled result (rest at.old) (rest at.new) }
-    ensures lexeme { GivesLexeme (lexeme (text_of at.old) before.now (rest at.old)) result (rest at.old) (rest at.new) }
+    ensures spelling { IsSpelled (text_of at.old) result (rest at.old) (rest at.new) }
+    ensures lexeme { GivesLexeme (text_of at.old) (lexeme (text_of at.old) before.now (rest at.old)) result (rest at.old) (rest at.new) }
 {
-    Found { kind: Kind::Stray, spelling: Spelling::Shown }
+    if pass_wanted_header(at, before) {
+        return shown(Kind::Header);
+    }
+    match literal_at(at) {
+        Some(Opening::Raw) => pass_raw_string(at),
+        Some(Opening::Quoted(quote)) => shown(pass_literal(at, quote)),
+        None => shown(pass_unquoted(at)),
+    }
 }

@@ -8,6 +8,7 @@ mod logical_lines;
 mod marks;
 mod passed;
 mod plain;
+mod spelled;
 
 mod tokens;
 mod unquoted;

@@ -1,12 +1,11 @@
 ghost use Rattle.std.specs.Prelude.{◌≡◌, ◌<◌, nat_lt, length, IfOk, OnErr};
 ghost use Rattle.line_splice.specs.Cursor.{text_of, rest};
 ghost use Rattle.lexeme_reader.specs.Fronts.{line};
-ghost use Rattle.pp_lexer.specs.Lexemes.{IsSpelled, spelling_of};
 ghost use Rattle.pp_lexer.specs.Reads.{GivesToken, is_nil, line_here};
 
 use crate::blanks::pass_blanks;
-use crate::lexeme::{Found, Spelling, pass_lexeme};
-use crate::passed::push_passed;
+use crate::lexeme::pass_lexeme;
+use crate::spelled::spelled;
 use line_splice::Cursor;
 use scan_model::{Bytes, NoMemory, Tok};
 use std::alloc::Global;
@@ -40,19 +39,6 @@ fn is_on_line(at: &Cursor<'_>) -> bool
     }
 }
 
-// The spelling of the token that was found between the two cursors.
-fn spelled(alloc: Global, from: &Cursor<'_>, found: Found, to: &Cursor<'_>) -> Result<Vec<u8>, NoMemory>
-    requires text { text_of to.now ≡ text_of from.now }
-    requires spelling { IsSpelled found (rest from.now) (rest to.now) }
-    ensures { IfOk result (λ v. v.items ≡ spelling_of found.spelling (rest from.now) (rest to.now)) }
-{
-    let mut text = Vec::new(alloc);
-    match found.spelling {
-        Spelling::Shown => push_passed(&mut text, from, to)?,
-    }
-    Ok(text)
-}
-
 /// The next token after the tokens `before` of its line, with its line and whether space stands before it
 /// ([lex.pptoken]). White space and comments are passed first. `at` is a cursor over the text, directly after the last of
 /// those tokens, or at the start of a line where there are none; it then stands directly after the token. None exactly
@@ -69,7 +55,6 @@ pub fn token(
     ensures token { IfOk result (λ t. GivesToken text.now before.now (rest at.old) t (rest at.new)) }
     ensures err { OnErr result (rest at.new ≡ rest at.old) }
 {
-    let _text = text;
     let mut next = *at;
     let space = pass_blanks(&mut next) | is_nil(before);
     if !is_on_line(&next) {
@@ -79,7 +64,7 @@ pub fn token(
     let line = line_here(before, next.line());
     let from = next;
     let found = pass_lexeme(&mut next, before);
-    let spelling = spelled(alloc, &from, found, &next)?;
+    let spelling = spelled(alloc, text, &from, found, &next)?;
     *at = next;
     Ok(Some(Tok {
         kind: found.kind,
