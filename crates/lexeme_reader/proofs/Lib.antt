@@ -9,3 +9,7 @@ pub mod NumberLemmas
 pub mod AlongLemmas
 pub mod QuotedLemmas
 pub mod HeaderLemmas
+pub mod RawLemmas
+pub mod DelimiterLemmas
+pub mod PlaceLemmas
+pub mod RawStringLemmas

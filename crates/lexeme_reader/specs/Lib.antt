@@ -5,3 +5,4 @@ pub mod Names
 pub mod Numbers
 pub mod Passes
 pub mod Quotes
+pub mod Raws

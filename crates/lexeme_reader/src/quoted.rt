@@ -48,13 +48,20 @@ fn encoding_of(first: u8, second: u8) -> usize
     }
 }
 
-// Passes the prefix that says how a literal is encoded, if one stands here.
-pub fn pass_encoding(at: &mut Cursor<'_>)
+// How many bytes the prefix takes that says how a literal is encoded, if one stands here.
+pub fn encoding_len(at: &Cursor<'_>) -> usize
+    ensures len { result ≡ encoding_len (line (rest at.now)) }
+    ensures within { result ≤ length (rest at.now) }
+{
+    encoding_of(first_byte(at), second_byte(at))
+}
+
+// Passes that prefix.
+fn pass_encoding(at: &mut Cursor<'_>)
     ensures text { text_of at.new ≡ text_of at.old }
-    ensures within { encoding_len (line (rest at.old)) ≤ length (line (rest at.old)) }
     ensures rest { rest at.new ≡ drop (encoding_len (line (rest at.old))) (rest at.old) }
 {
-    let len = encoding_of(first_byte(at), second_byte(at));
+    let len = encoding_len(at);
     pass_bytes(at, len);
 }
 

@@ -1,5 +1,6 @@
 ghost use Rattle.std.specs.Prelude.{◌≡◌, ◌≤◌, length, drop, slice_index};
 ghost use Rattle.line_splice.specs.Cursor.{text_of, rest};
+ghost use Rattle.scan_model.specs.Tokens.{from_place};
 ghost use Rattle.lexeme_reader.specs.Fronts.{line};
 
 use line_splice::Cursor;
@@ -41,5 +42,31 @@ pub fn second_byte(at: &Cursor<'_>) -> u8
             first_byte(&next)
         }
         None => 0,
+    }
+}
+
+// Passes the rest of the line.
+pub fn pass_line(at: &mut Cursor<'_>)
+    ensures text { text_of at.new ≡ text_of at.old }
+    ensures rest { rest at.new ≡ drop (length (line (rest at.old))) (rest at.old) }
+{
+    'line: while let Some(byte) = at.peek() {
+        if byte == b'\n' {
+            break;
+        }
+        at.advance();
+    }
+}
+
+// Goes on to the first byte that lies at the place in the text or after it.
+pub fn pass_to(at: &mut Cursor<'_>, place: usize)
+    ensures text { text_of at.new ≡ text_of at.old }
+    ensures rest { rest at.new ≡ from_place place (rest at.old) }
+{
+    'to: while !at.is_end() {
+        if at.raw_from() >= place {
+            break;
+        }
+        at.advance();
     }
 }
