@@ -13,3 +13,5 @@ pub mod MarkLemmas
 pub mod PassedLemmas
 pub mod UnquotedLemmas
 pub mod RuleLemmas
+pub mod RawLemmas
+pub mod FoundLemmas

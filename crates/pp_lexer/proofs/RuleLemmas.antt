@@ -1,6 +1,6 @@
 -- The lexeme, by the first rule that applies.
 use Rattle.std.proofs.Common.{◌≡◌, ◌≢◌, ℕ, ◌+◌, ◌<◌, ◌≤◌, Bool, true, false, cond, ◌==◌, ◌&&◌, ◌||◌, nat_lt, List, [], ◌∷◌, refl, ap, sym, ◌∙◌, inl, inr, take, drop, length, arith, Option, Some, None, is_none, is_some, ◌⊎◌}
-use Rattle.std.proofs.lemmas.Bool.{and_parts, and_from, and_left, and_right, or_from, or_left, or_right, lt-ltb, false_from_ne_true, true≢false, OnTrue_at, OnFalse_at}
+use Rattle.std.proofs.lemmas.Bool.{and_parts, and_from, and_left, and_right, or_from, or_left, or_right, lt-ltb, false_from_ne_true, true≢false, OnTrue_at, OnFalse_at, cases_Bool}
 use Rattle.std.specs.Bool.{OnTrue, OnFalse}
 use Rattle.line_splice.specs.declared.cursor.Cursor.{Cursor}
 use Rattle.line_splice.specs.Cursor.{rest}
@@ -43,6 +43,12 @@ pub other_rule : (text : List ℕ) (before : List Tok) (spots : List Spot) → N
     → lexeme text before spots ≡ unquoted spots
 unfolding lexeme
 other_rule text before spots header raw closed = rw (header, raw, closed) refl
+
+pub not_raw_rule : (text : List ℕ) (before : List Tok) (spots : List Spot) → NoHeader before spots → opens_raw (line spots) ≡ false → lexeme text before spots ≡ not_raw spots
+not_raw_rule text before spots header raw = elim (cases_Bool (is_open (line spots))) [
+  | inl open_quote ↦ open_rule text before spots header raw open_quote ∙ rw open_quote refl
+  | inr closed ↦ other_rule text before spots header raw closed ∙ rw closed refl
+]
 
 -- ## Whether a quote is closed
 

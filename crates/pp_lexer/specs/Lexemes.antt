@@ -1,11 +1,15 @@
 -- The lexeme that a cursor has passed, by what the code answers.
-use Rattle.std.specs.Prelude.{◌≡◌, ℕ, Bool, true, false, List, drop}
+use Rattle.std.specs.Prelude.{◌≡◌, ℕ, Bool, true, false, List, drop, Option, Some, None}
 use Rattle.scan_model.specs.declared.token.Kind.{Kind}
 use Rattle.scan_model.specs.declared.token.Kind.TheVariants.{Char, Str, Stray}
 use Rattle.scan_model.specs.Spliced.{Spot}
+use Rattle.scan_model.specs.Spelling.{opens}
 use Rattle.scan_model.specs.Tokens.{Lexeme, bytes}
 use Rattle.lexeme_reader.specs.declared.quoted.Quote.{Quote}
 use Rattle.lexeme_reader.specs.declared.quoted.Quote.TheVariants.{Single, Double}
+use Rattle.lexeme_reader.specs.declared.quoted.Opening.{Opening}
+use Rattle.lexeme_reader.specs.declared.quoted.Opening.TheVariants.{Quoted, Raw as OpensRaw}
+use Rattle.lexeme_reader.specs.Quotes.{quote_byte, other_quote}
 use Rattle.pp_lexer.specs.declared.lexeme.Found.{Found}
 use Rattle.pp_lexer.specs.declared.lexeme.Spelling.{Spelling}
 use Rattle.pp_lexer.specs.declared.lexeme.Spelling.TheVariants.{Shown, Raw}
@@ -19,6 +23,21 @@ abbrev pub literal_kind : Quote → Bool → Kind
 literal_kind Single true = Char
 literal_kind Double true = Str
 literal_kind quote false = Stray
+
+abbrev pub is_raw : Option Opening → Bool
+is_raw None = false
+is_raw (Some OpensRaw) = true
+is_raw (Some (Quoted quote)) = false
+
+abbrev pub quote_of : Option Opening → Option Quote
+quote_of None = None
+quote_of (Some OpensRaw) = None
+quote_of (Some (Quoted quote)) = Some quote
+
+-- a literal in these quotes, or none, opens at the front of a line
+abbrev pub IsQuoteAt : Option Quote → List ℕ → Type 0
+IsQuoteAt None s = (opens 39 s ≡ false) × (opens 34 s ≡ false)
+IsQuoteAt (Some quote) s = (opens (quote_byte quote) s ≡ true) × (opens (quote_byte (other_quote quote)) s ≡ false)
 
 -- the spelling of what has been passed between two cursors
 abbrev pub spelling_of : List ℕ → Spelling → List Spot → List Spot → List ℕ

@@ -5,7 +5,7 @@ ghost use Rattle.lexeme_reader.specs.Quotes.{quote_byte, other_quote};
 ghost use Rattle.scan_model.specs.Spelling.{is_header, opens, opens_raw, longest};
 ghost use Rattle.scan_model.specs.Tokens.{wants_header, raw_lexeme, lexeme};
 ghost use Rattle.pp_lexer.specs.Reads.{GivesShown, IsAhead, not_raw};
-ghost use Rattle.pp_lexer.specs.Lexemes.{literal_kind, IsSpelled, GivesLexeme};
+ghost use Rattle.pp_lexer.specs.Lexemes.{literal_kind, is_raw, quote_of, IsQuoteAt, IsSpelled, GivesLexeme};
 
 use crate::header_names::wants_header;
 use crate::unquoted::pass_unquoted;
@@ -78,6 +78,40 @@ fn pass_literal(at: &mut Cursor<'_>, quote: Quote) -> Kind
     literal_kind(quote, closed)
 }
 
+fn is_raw(opening: Option<Opening>) -> bool
+    ensures { result ≡ is_raw opening }
+{
+    match opening {
+        Some(Opening::Raw) => true,
+        Some(Opening::Quoted(_)) => false,
+        None => false,
+    }
+}
+
+fn quote_of(opening: Option<Opening>) -> Option<Quote>
+    ensures { result ≡ quote_of opening }
+{
+    match opening {
+        Some(Opening::Quoted(quote)) => Some(quote),
+        Some(Opening::Raw) => None,
+        None => None,
+    }
+}
+
+// Passes the token that stands here where no raw string opens, but a literal in these quotes, or none.
+fn pass_not_raw(at: &mut Cursor<'_>, quote: Option<Quote>) -> Kind
+    requires some { 0 < length (line (rest at.old)) }
+    requires quote { IsQuoteAt quote (line (rest at.old)) }
+    ensures text { text_of at.new ≡ text_of at.old }
+    ensures ahead { IsAhead (rest at.old) (rest at.new) }
+    ensures lexeme { GivesShown (not_raw (rest at.old)) result (rest at.old) (rest at.new) }
+{
+    match quote {
+        Some(quote) => pass_literal(at, quote),
+        None => pass_unquoted(at),
+    }
+}
+
 // Passes the token that `R"` begins, after a prefix or none.
 fn pass_raw_string<'a>(at: &mut Cursor<'a>) -> Found<'a>
     requires some { 0 < length (line (rest at.old)) }
@@ -105,9 +139,10 @@ pub fn pass_lexeme<'a>(at: &mut Cursor<'a>, before: &[Tok]) -> Found<'a>
     if pass_wanted_header(at, before) {
         return shown(Kind::Header);
     }
-    match literal_at(at) {
-        Some(Opening::Raw) => pass_raw_string(at),
-        Some(Opening::Quoted(quote)) => shown(pass_literal(at, quote)),
-        None => shown(pass_unquoted(at)),
+    let opening = literal_at(at);
+    if is_raw(opening) {
+        return pass_raw_string(at);
     }
+    let kind = pass_not_raw(at, quote_of(opening));
+    shown(kind)
 }

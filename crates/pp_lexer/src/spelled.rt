@@ -30,7 +30,7 @@ fn push_raw(
 ) -> Result<(), NoMemory>
     requires text { text_of to.now ≡ text.now }
     requires parts { FitsBetween parts text.now (rest from.now) (rest to.now) }
-    ensures { OnOk result (out.new.items ≡ out.old.items ++ raws.spelling_of parts text.now (rest from.now)) }
+    ensures { OnOk result (out.new.items ≡ out.old.items ++ raws.spelling_of parts.entry text.now (rest from.now)) }
 {
     push_first(out, from, parts.intro)?;
     push_slice(out, &text[parts.start..parts.end])?;
@@ -48,7 +48,7 @@ pub fn spelled(
     requires from { text_of from.now ≡ text.now }
     requires to { text_of to.now ≡ text.now }
     requires spelling { IsSpelled text.now found (rest from.now) (rest to.now) }
-    ensures { IfOk result (λ v. v.items ≡ spelling_of text.now found.spelling (rest from.now) (rest to.now)) }
+    ensures { IfOk result (λ v. v.items ≡ spelling_of text.now found.entry.spelling (rest from.now) (rest to.now)) }
 {
     let mut out = Vec::new(alloc);
     match found.spelling {
