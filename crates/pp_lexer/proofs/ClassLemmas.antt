@@ -59,7 +59,7 @@ encoded_number (d ∷ ds) h =
           let dot : d ≡ 46 = eqb-true d 46 both.0 in
           ap (λ b. begins_digits (b ++ encode_utf8_all ds)) (encode_ascii d (omega arith))
           ∙ or_right (is_ascii_digit d) (d == 46 && is_ascii_digit (slice_index (encode_utf8_all ds) 0))
-            (and_from (d == 46) (is_ascii_digit (slice_index (encode_utf8_all ds) 0)) both.0 (digit_next ds both.1))
+          (and_from (d == 46) (is_ascii_digit (slice_index (encode_utf8_all ds) 0)) both.0 (digit_next ds both.1))
     ]
 
 pub number_first : (s : List ℕ) → is_number s ≡ true → begins_digits s ≡ true

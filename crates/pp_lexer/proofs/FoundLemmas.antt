@@ -76,7 +76,7 @@ pub raw_found : (text text1 : List ℕ) (before : List Tok) (s s1 after : List S
     → IsOpening o (line s1) → is_raw o ≡ true → GivesLexeme text1 (raw_lexeme text1 s1) found s1 after → GivesLexeme text (lexeme text before s) found s after
 raw_found text text1 before s s1 after o found e f header opening raw given =
     let here : GivesLexeme text (raw_lexeme text s) found s after =
-        subst (λ u. GivesLexeme text (raw_lexeme text u) found u after) f (subst (λ t. GivesLexeme t (raw_lexeme t s1) found s1 after) e given) in
+    subst (λ u. GivesLexeme text (raw_lexeme text u) found u after) f (subst (λ t. GivesLexeme t (raw_lexeme t s1) found s1 after) e given) in
     raw_rule text before s header (raw_opens o (line s) (subst (λ u. IsOpening o (line u)) f opening) raw) ∙ here
 
 pub raw_spelled : (text text1 : List ℕ) (s s1 after : List Spot) (found : Found) → text1 ≡ text → s1 ≡ s → IsSpelled text1 found s1 after → IsSpelled text found s after

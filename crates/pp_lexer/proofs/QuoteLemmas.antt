@@ -195,10 +195,10 @@ quoted_some q o s r quote opening after =
     let whole = c.whole in
     let le : m ≤ length s = omega (arith, whole, within, length-drop (i + 1) s) in
     let inside : after_quoted q (take m s) ≡ Some [] =
-        ap (λ k. after_items q false (drop (k + 1) (take m s))) (encoding-take s m reaches)
-        ∙ ap (after_items q false) (drop-take (i + 1) c.len s) ∙ c.long c.len 0 (omega arith) in
+    ap (λ k. after_items q false (drop (k + 1) (take m s))) (encoding-take s m reaches)
+    ∙ ap (after_items q false) (drop-take (i + 1) c.len s) ∙ c.long c.len 0 (omega arith) in
     let passes : is_quoted q (take m s) ≡ true =
-        and_from (opens q (take m s)) _ (opens-take q s m reaches ∙ opening) (ap (λ a. option_map_or is_suffix a false) inside) in
+    and_from (opens q (take m s)) _ (opens-take q s m reaches ∙ opening) (ap (λ a. option_map_or is_suffix a false) inside) in
     elim (cases_lt 0 (longest (is_quoted q) s)) [
       | inl some ↦ some
       | inr none ↦ absurd (true≢false (sym passes ∙ longest_beyond (is_quoted q) s m (omega arith) le))

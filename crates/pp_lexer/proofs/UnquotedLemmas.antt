@@ -31,8 +31,7 @@ line_ahead at n new some le is =
     let on_line = line_le s in
     let within : length (line s) < length s = line_is_within at (λ e. let z : length s ≡ 0 = ap length e in omega (arith, some, on_line, z)) in
     let len : length new ≡ length (drop n s) = ap length is in
-    let count : length s - length new ≡ n = omega (arith, len, le, within, length-drop n s) in
-    (
+    let count : length s - length new ≡ n = omega (arith, len, le, within, length-drop n s) in (
       (λ e. let z : length new ≡ 0 = ap length e in absurd (omega (arith, z, len, le, within, length-drop n s)), is ∙ ap (λ k. drop k s) (sym count)),
       ap (λ k. take k s) count,
     )

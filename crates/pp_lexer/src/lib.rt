@@ -9,7 +9,6 @@ mod marks;
 mod passed;
 mod plain;
 mod spelled;
-
 mod tokens;
 mod unquoted;
 
