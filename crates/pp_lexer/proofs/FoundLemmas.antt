@@ -1,5 +1,5 @@
 -- What has been found between two cursors.
-use Rattle.std.proofs.Common.{◌≡◌, ℕ, ◌<◌, ◌≤◌, Bool, true, false, cond, ◌&&◌, nat_lt, List, [], ◌∷◌, refl, ap, sym, ◌∙◌, subst, drop, length, arith, Option, Some, None}
+use Rattle.std.proofs.Common.{◌≡◌, ℕ, ◌<◌, true, false, ◌&&◌, nat_lt, List, refl, ap, sym, ◌∙◌, subst, drop, length, Option, Some, None}
 use Rattle.std.proofs.lemmas.Bool.{and_parts, ltb-true}
 use Rattle.line_splice.specs.declared.cursor.Cursor.{Cursor}
 use Rattle.line_splice.specs.Cursor.{rest}
@@ -9,14 +9,13 @@ use Rattle.lexeme_reader.specs.declared.quoted.Opening.TheVariants.{Quoted, Raw}
 use Rattle.lexeme_reader.specs.Fronts.{line}
 use Rattle.lexeme_reader.specs.Quotes.{IsOpening}
 use Rattle.scan_model.specs.declared.token.Kind.{Kind}
-use Rattle.scan_model.specs.declared.token.Kind.TheVariants.{Header, Stray}
+use Rattle.scan_model.specs.declared.token.Kind.TheVariants.{Header}
 use Rattle.scan_model.specs.declared.token.Tok.{Tok}
 use Rattle.scan_model.specs.Spliced.{Spot}
-use Rattle.scan_model.specs.Spelling.{is_header, opens, opens_raw, longest}
-use Rattle.scan_model.specs.Tokens.{Lexeme, bytes, cut, wants_header, is_open, lexeme, raw_lexeme}
+use Rattle.scan_model.specs.Spelling.{is_header, opens_raw, longest}
+use Rattle.scan_model.specs.Tokens.{Lexeme, bytes, wants_header, is_open, lexeme, raw_lexeme}
 use Rattle.scan_model.proofs.LongestLemmas.{longest_le}
 use Rattle.pp_lexer.specs.declared.lexeme.Found.{Found}
-use Rattle.pp_lexer.specs.declared.lexeme.Spelling.{Spelling}
 use Rattle.pp_lexer.specs.declared.lexeme.Spelling.TheVariants.{Shown}
 use Rattle.pp_lexer.specs.Lexemes.{is_raw, quote_of, IsQuoteAt, spelling_of, CanSpell, IsSpelled, GivesLexeme}
 use Rattle.pp_lexer.specs.Reads.{passed, IsAhead, GivesShown, not_raw, unquoted}

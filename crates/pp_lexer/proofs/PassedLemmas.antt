@@ -1,5 +1,5 @@
 -- What shows between two cursors, byte by byte.
-use Rattle.std.proofs.Common.{◌≡◌, ◌≢◌, ℕ, zero, suc, ◌+◌, ◌-◌, ◌<◌, ◌≤◌, Bool, true, false, ◌==◌, nat_le, List, [], ◌∷◌, ◌++◌, refl, ap, sym, ◌∙◌, subst, inl, inr, take, drop, length, length-drop, length-take, slice_set, arith, cond, ◌||◌, Some, is_some}
+use Rattle.std.proofs.Common.{◌≡◌, ℕ, ◌+◌, ◌-◌, ◌<◌, ◌≤◌, Bool, true, false, nat_le, List, [], ◌∷◌, ◌++◌, refl, ap, sym, ◌∙◌, inl, inr, take, drop, length, length-drop, length-take, slice_set, arith, cond, ◌||◌, Some, is_some}
 use Rattle.std.proofs.lemmas.Bool.{cases_lt, leb-true, false_from_ne_true}
 use Rattle.std.proofs.lemmas.List.{drop-drop, append_assoc}
 use Rattle.std.specs.Prelude.{unwrap_or}

@@ -1,5 +1,5 @@
 -- Bytes that show as they are written.
-use Rattle.std.proofs.Common.{◌≡◌, ℕ, zero, suc, ◌+◌, ◌-◌, ◌<◌, ◌≤◌, Bool, true, false, not, cond, ◌==◌, ◌&&◌, ◌||◌, List, [], ◌∷◌, refl, ap, sym, subst, ◌∙◌, inl, inr, take, drop, length, length-drop, arith}
+use Rattle.std.proofs.Common.{◌≡◌, ℕ, zero, suc, ◌+◌, ◌-◌, ◌<◌, ◌≤◌, true, false, ◌==◌, ◌||◌, List, [], ◌∷◌, refl, ap, sym, subst, ◌∙◌, inl, inr, take, drop, length, length-drop, arith}
 use Rattle.std.proofs.lemmas.Bool.{and_parts, or_parts, or_from, and_left, and_right, not-true, cases_order}
 use Rattle.std.specs.List.{list_all}
 use Rattle.line_splice.specs.declared.cursor.Cursor.{Cursor}

@@ -12,6 +12,8 @@ mod spelled;
 mod tokens;
 mod unquoted;
 
+pub use blanks::pass_blanks;
+pub use lexeme::{Found, Spelling, pass_lexeme};
 pub use logical_lines::lines;
 pub use plain::first_not_plain;
 pub use tokens::token;

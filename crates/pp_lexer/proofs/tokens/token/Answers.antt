@@ -1,5 +1,5 @@
-use Rattle.std.proofs.Common.{◌≡◌, ◌<◌, ◌∙◌, ap, sym, refl, ◌||◌, nat_lt, not, length}
-use Rattle.std.proofs.lemmas.Bool.{not-true, not-false, ltb-true}
+use Rattle.std.proofs.Common.{◌<◌, ◌∙◌, ap, sym, refl, ◌||◌, nat_lt, length}
+use Rattle.std.proofs.lemmas.Bool.{ltb-true}
 use Rattle.line_splice.specs.Cursor.{rest}
 use Rattle.lexeme_reader.specs.Fronts.{line}
 use Rattle.scan_model.specs.Spliced.{line_at}
