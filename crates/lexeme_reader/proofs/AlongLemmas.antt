@@ -1,5 +1,5 @@
 -- Steps of a cursor along its line.
-use Rattle.std.proofs.Common.{◌≡◌, ◌≢◌, ℕ, zero, suc, ◌+◌, ◌-◌, ◌<◌, ◌≤◌, Bool, true, false, ◌==◌, List, [], ◌∷◌, refl, ap, sym, ◌∙◌, inl, inr, drop, length, length-drop, slice_index, arith, Option, Some, None}
+use Rattle.std.proofs.Common.{◌<◌, ◌≡◌, ◌≢◌, ℕ, suc, ◌+◌, ◌≤◌, List, [], ◌∷◌, refl, ap, sym, ◌∙◌, drop, length, length-drop, arith, Some, None}
 use Rattle.std.proofs.lemmas.Bool.{ne_eqb, eq-eqb}
 use Rattle.std.proofs.lemmas.List.{drop-drop}
 use Rattle.scan_model.specs.Spliced.{Spot, byte_at}
@@ -42,3 +42,7 @@ along_end a b along none =
     let z : length (drop along.len (line a)) ≡ 0 = ap length (sym (along_line a b along) ∙ none) in
     let e : along.len ≡ length (line a) = omega (arith, z, length-drop along.len (line a), along.within) in
     along.left ∙ ap (λ k. drop k a) e
+
+pub line_some : (s : List Spot) → s ≢ [] → byte_at s ≢ Some 10 → 0 < length (line s)
+line_some [] left ne = absurd (left refl)
+line_some (x ∷ s) left ne = let cons = line-cons (x ∷ s) x.byte refl (λ e. ne (ap Some e)) in omega (arith, ap length cons)

@@ -21,9 +21,7 @@ pub fn first_byte(at: &Cursor<'_>) -> u8
     ensures { result ≡ slice_index (line (rest at.now)) 0 }
 {
     match at.peek() {
-        Some(byte) => {
-            if byte == b'\n' { 0 } else { byte }
-        }
+        Some(byte) => { if byte == b'\n' { 0 } else { byte } }
         None => 0,
     }
 }
