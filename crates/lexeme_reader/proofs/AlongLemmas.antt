@@ -1,5 +1,5 @@
 -- Steps of a cursor along its line.
-use Rattle.std.proofs.Common.{◌<◌, ◌≡◌, ◌≢◌, ℕ, suc, ◌+◌, ◌≤◌, List, [], ◌∷◌, refl, ap, sym, ◌∙◌, drop, length, length-drop, arith, Some, None}
+use Rattle.std.proofs.Common.{◌<◌, ◌≡◌, ◌≢◌, ℕ, suc, ◌+◌, ◌<◌, ◌≤◌, List, [], ◌∷◌, refl, ap, sym, ◌∙◌, drop, length, length-drop, arith, Some, None}
 use Rattle.std.proofs.lemmas.Bool.{ne_eqb, eq-eqb}
 use Rattle.std.proofs.lemmas.List.{drop-drop}
 use Rattle.scan_model.specs.Spliced.{Spot, byte_at}
@@ -43,6 +43,6 @@ along_end a b along none =
     let e : along.len ≡ length (line a) = omega (arith, z, length-drop along.len (line a), along.within) in
     along.left ∙ ap (λ k. drop k a) e
 
-pub line_some : (s : List Spot) → s ≢ [] → byte_at s ≢ Some 10 → 0 < length (line s)
-line_some [] left ne = absurd (left refl)
-line_some (x ∷ s) left ne = let cons = line-cons (x ∷ s) x.byte refl (λ e. ne (ap Some e)) in omega (arith, ap length cons)
+-- a byte that is no newline is on the line
+pub line_some : (s : List Spot) (c : ℕ) → byte_at s ≡ Some c → c ≢ 10 → 0 < length (line s)
+line_some s c here ne = omega (arith, ap length (line-cons s c here ne))

@@ -1,8 +1,7 @@
-ghost use Rattle.std.specs.Prelude.{◌≡◌, ◌≢◌, ◌<◌, ◌≤◌, [], Some, length, drop, MatchOption};
+ghost use Rattle.std.specs.Prelude.{◌≡◌, ◌<◌, ◌≤◌, length, drop, MatchOption};
 ghost use Rattle.std.specs.Char.{encode_utf8};
 ghost use Rattle.std.specs.Str.{IsUtf8};
 ghost use Rattle.line_splice.specs.Cursor.{text_of, rest};
-ghost use Rattle.scan_model.specs.Spliced.{byte_at};
 ghost use Rattle.scan_model.specs.Tokens.{bytes};
 ghost use Rattle.lexeme_reader.specs.Fronts.{line, character_len};
 ghost use Rattle.lexeme_reader.specs.Character.{BeginsWith, NoCharacter};
@@ -74,10 +73,9 @@ fn character_len(at: &Cursor<'_>) -> usize
 }
 
 /// Passes the character of well-formed UTF-8 that stands here, or the one byte where none does. Something has to be
-/// left, and no newline stands here.
+/// left on the line.
 pub fn pass_character(at: &mut Cursor<'_>)
-    requires left { rest at.old ≢ [] }
-    requires line { byte_at (rest at.old) ≢ Some 10 }
+    requires { 0 < length (line (rest at.old)) }
     ensures text { text_of at.new ≡ text_of at.old }
     ensures rest { rest at.new ≡ drop (character_len (line (rest at.old))) (rest at.old) }
 {

@@ -5,7 +5,7 @@ ghost use Rattle.lexeme_reader.specs.Fronts.{line};
 
 use line_splice::Cursor;
 
-// Passes the next bytes.
+/// Passes the next bytes, as many as the count says. They have to be there.
 pub fn pass_bytes(at: &mut Cursor<'_>, count: usize)
     requires { count ≤ length (rest at.old) }
     ensures text { text_of at.new ≡ text_of at.old }

@@ -130,9 +130,10 @@ fn character(rt: &impl Abort, text: &[u8], place: usize)
     requires { length text.now ≤ 33554432 }
 {
     let mut at = Cursor::new(text);
-    match at.peek() {
-        Some(byte) if byte != b'\n' => pass_character(&mut at),
-        _ => assert!(rt; false),
+    if let Some(byte) = at.peek() {
+        if byte != b'\n' {
+            pass_character(&mut at);
+        }
     }
     assert_eq!(rt; at.raw_from(), place);
 }
