@@ -1,0 +1,15 @@
+pub mod SpotLemmas
+pub mod CharacterLemmas
+pub mod TextLemmas
+pub mod LineLemmas
+pub mod FrontLemmas
+pub mod PassLemmas
+pub mod NameLemmas
+pub mod NumberLemmas
+pub mod AlongLemmas
+pub mod QuotedLemmas
+pub mod HeaderLemmas
+pub mod RawLemmas
+pub mod DelimiterLemmas
+pub mod PlaceLemmas
+pub mod RawStringLemmas
