@@ -1,2 +1,4 @@
 pub mod Operators
 pub mod Digits
+pub mod Characters
+pub mod Escapes

@@ -73,7 +73,11 @@ fn is_less(left: CondValue, right: CondValue) -> bool
 fn with_sign(negative: bool, magnitude: u64) -> u64
     ensures { result ≡ with_sign negative magnitude }
 {
-    if negative { negated(magnitude) } else { magnitude }
+    if negative {
+        negated(magnitude)
+    } else {
+        magnitude
+    }
 }
 
 // Truncated toward zero ([expr.mul]).

@@ -1,4 +1,5 @@
 ghost use Rattle.std.specs.Prelude.{◌≡◌, ◌<◌, ◌≤◌, Some, None, if◌then◌else◌, slice_index, drop, length, ◌*◌, ◌+◌};
+ghost use Rattle.std.specs.List.{prefix_len};
 ghost use Rattle.scan_model.specs.Literals.{digit_value, is_digit, digits_len, number_of};
 ghost use Rattle.if_values.specs.Digits.{goes_on, fitting};
 
@@ -13,7 +14,11 @@ pub(crate) fn byte_at(text: &[u8], place: usize) -> u8
 pub(crate) fn after(text: &[u8], count: usize) -> &[u8]
     ensures { result.now ≡ drop count text.now }
 {
-    if count < text.len() { &text[count..] } else { &[] }
+    if count < text.len() {
+        &text[count..]
+    } else {
+        &[]
+    }
 }
 
 /// The value of a digit of this base, in either case; None exactly where the byte is none.
@@ -54,10 +59,23 @@ pub(crate) fn digits_len(base: u64, text: &[u8]) -> usize
     ensures within { result ≤ length text.now }
 {
     let mut len = 0;
-    'digits: while goes_on(base, &text[len..]) {
+    'digits: while goes_on(base, after(text, len)) {
         len += 1;
     }
     len
+}
+
+/// How many bytes in front are digits of this base.
+pub(crate) fn plain_digits_len(base: u64, text: &[u8]) -> usize
+    ensures value { result ≡ prefix_len (is_digit base) text.now }
+    ensures within { result ≤ length text.now }
+{
+    for (i, byte) in text.iter().enumerate() {
+        if !is_digit(base, *byte) {
+            return i;
+        }
+    }
+    text.len()
 }
 
 /// The number that the digits among the bytes write; None exactly where it has no place in 64 bits.

@@ -5,7 +5,10 @@
 #![tactic(auto)]
 
 mod arithmetic;
+mod characters;
 mod digits;
+mod escapes;
+mod integer;
 mod operators;
 
 pub use scan_model::{CondFault, CondValue};
