@@ -2,3 +2,5 @@ pub mod Operators
 pub mod Digits
 pub mod Characters
 pub mod Escapes
+pub mod Levels
+pub mod Names

@@ -8,7 +8,10 @@ mod arithmetic;
 mod characters;
 mod digits;
 mod escapes;
+mod header_name;
 mod integer;
 mod operators;
+mod token_tests;
 
-pub use scan_model::{CondFault, CondValue};
+pub use header_name::next_has;
+pub use scan_model::{CondFault, CondValue, HasAt, HasNext};
