@@ -1,3 +1,4 @@
 pub mod DigitLemmas
 pub mod CharacterLemmas
 pub mod NameLemmas
+pub mod KnownLemmas

@@ -4,3 +4,5 @@ pub mod Characters
 pub mod Escapes
 pub mod Levels
 pub mod Names
+pub mod Known
+pub mod Items

@@ -10,6 +10,7 @@ mod digits;
 mod escapes;
 mod header_name;
 mod integer;
+mod known_tokens;
 mod operators;
 mod token_tests;
 

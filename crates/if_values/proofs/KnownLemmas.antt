@@ -1,0 +1,198 @@
+-- The terms of tokens, one after another.
+use Rattle.std.proofs.Common.{◌≡◌, ℕ, ◌+◌, ◌<◌, ◌≤◌, zero, suc, Bool, true, false, cond, List, [], ◌∷◌, length, drop, get_or, ap, sym, refl, arith, length-drop}
+use Rattle.std.specs.Prelude.{Option, Some, None, IfSome}
+use Rattle.std.specs.Option.{option_map, option_map_or}
+use Rattle.std.proofs.lemmas.Option.{IfSome_then, some_pair_parts}
+use Rattle.scan_model.specs.declared.token.Kind.TheVariants.{Header}
+use Rattle.scan_model.specs.declared.token.Tok.{Tok}
+use Rattle.scan_model.specs.declared.command.Form.{Form}
+use Rattle.scan_model.specs.declared.command.Form.TheVariants.{Quoted}
+use Rattle.if_values.specs.Names.{shape}
+use Rattle.if_values.specs.Items.{first_of}
+use Rattle.scan_model.specs.TokenTests.{is_of, is_sign, is_open_paren, is_close_paren, is_plain_string, unquoted}
+use Rattle.scan_model.specs.HeaderName.{Named, Term, Plain, Has, nonempty, written_before, angled_rest, angled, name_of, header, header_or_name, before_close, has_name, is_has, has_term, terms_up_to, terms}
+use Rattle.scan_model.specs.Condition.{with_has, has_literal}
+use Rattle.if_values.specs.Known.{has_count, HasEntries, known}
+
+-- ---- what follows a name is shorter
+
+IfSome-cond : {X : Type 0} (P : X → Type 0) (b : Bool) (x y : Option X) → IfSome x P → IfSome y P → IfSome (cond b x y) P
+IfSome-cond P true x y p q = p
+IfSome-cond P false x y p q = q
+
+abbrev pub AfterWithin : ℕ → Named → Type 0
+AfterWithin k n = length n.after ≤ k
+
+within_more : (j k : ℕ) (o : Option Named) → j ≤ k → IfSome o (AfterWithin j) → IfSome o (AfterWithin k)
+within_more j k None h p = tt
+within_more j k (Some n) h p = omega arith
+
+written_within : (k : ℕ) (s : List ℕ) (o : Option Named) → IfSome o (AfterWithin k) → IfSome (option_map (written_before s) o) (AfterWithin k)
+written_within k s None p = tt
+written_within k s (Some n) p = p
+
+angled_rest_within : (ts : List Tok) → IfSome (angled_rest ts) (AfterWithin (length ts))
+angled_rest_within [] = tt
+angled_rest_within (t ∷ ts) = let k = length (t ∷ ts) in
+    IfSome-cond (AfterWithin k) (is_sign (">" ∷ []) t) _ (option_map (written_before (cond t.space (32 ∷ t.text) t.text)) (angled_rest ts)) (omega arith)
+    (written_within k (cond t.space (32 ∷ t.text) t.text) (angled_rest ts) (within_more (length ts) k (angled_rest ts) (omega arith) (angled_rest_within ts)))
+
+angled_within : (ts : List Tok) → IfSome (angled ts) (AfterWithin (length ts))
+angled_within [] = tt
+angled_within (t ∷ ts) = let k = length (t ∷ ts) in
+    IfSome-cond (AfterWithin k) (is_sign (">" ∷ []) t) None (option_map (written_before t.text) (angled_rest ts)) tt
+    (written_within k t.text (angled_rest ts) (within_more (length ts) k (angled_rest ts) (omega arith) (angled_rest_within ts)))
+
+name_of_within : (ts : List Tok) → IfSome (name_of ts) (AfterWithin (length ts))
+unfolding name_of
+name_of_within [] = tt
+name_of_within (t ∷ ts) = let k = length (t ∷ ts) in
+    let quoted : Named = record { form = Quoted; name = unquoted t.text; after = ts } in
+    IfSome-cond (AfterWithin k) (is_plain_string t) (nonempty quoted) (cond (is_sign ("<" ∷ []) t) (angled ts) None) (IfSome-cond (AfterWithin k) _ None (Some quoted) tt (omega arith))
+    (IfSome-cond (AfterWithin k) (is_sign ("<" ∷ []) t) (angled ts) None (within_more (length ts) k (angled ts) (omega arith) (angled_within ts)) tt)
+
+header_or_name_within : (ts : List Tok) → IfSome (header_or_name ts) (AfterWithin (length ts))
+header_or_name_within [] = tt
+header_or_name_within (t ∷ ts) = let k = length (t ∷ ts) in
+    IfSome-cond (AfterWithin k) (is_of Header t) (Some (header t ts)) (name_of (t ∷ ts)) (omega arith) (name_of_within (t ∷ ts))
+
+before_close_within : (k : ℕ) (n : Named) → length n.after ≤ k → IfSome (before_close n) (AfterWithin k)
+before_close_within k n h =
+    elim (n.after) as (λ v. IfSome (elim v [
+      | [] ↦ None
+      | t ∷ ts ↦ cond (is_close_paren t) (Some n) None
+    ]) (AfterWithin k)) [
+      | [] ↦ tt
+      | t ∷ ts ↦ IfSome-cond (AfterWithin k) (is_close_paren t) (Some n) None h tt
+    ]
+
+map_or_within : (k : ℕ) (o : Option Named) → IfSome o (AfterWithin k) → IfSome (option_map_or before_close o None) (AfterWithin k)
+map_or_within k None p = tt
+map_or_within k (Some n) p = before_close_within k n p
+
+pub has_name_within : (ts : List Tok) → IfSome (has_name ts) (AfterWithin (length ts))
+has_name_within [] = tt
+has_name_within (t ∷ ts) = let k = length (t ∷ ts) in
+    IfSome-cond (AfterWithin k) (is_open_paren t) (option_map_or before_close (header_or_name ts) None) None
+    (map_or_within k (header_or_name ts) (within_more (length ts) k (header_or_name ts) (omega arith) (header_or_name_within ts))) tt
+
+-- ---- any fuel that suffices gives the same terms
+
+has_term_same : (n m : ℕ) (o : Option Named) → IfSome o (λ f. terms_up_to n (drop 1 f.after) ≡ terms_up_to m (drop 1 f.after)) → has_term o (terms_up_to n) ≡ has_term o (terms_up_to m)
+has_term_same n m None h = refl
+has_term_same n m (Some f) h = ap (option_map (Has f.form f.name ∷◌)) h
+
+cond_same : {X : Type 0} (t : Bool) (a b x y : X) → a ≡ b → x ≡ y → cond t a x ≡ cond t b y
+cond_same true a b x y p q = p
+cond_same false a b x y p q = q
+
+same_fuel : (n m : ℕ) (ts : List Tok) → length ts ≤ n → length ts ≤ m → terms_up_to n ts ≡ terms_up_to m ts
+same_fuel zero zero ts h k = refl
+same_fuel zero (suc m) [] h k = refl
+same_fuel (suc n) zero [] h k = refl
+same_fuel (suc n) (suc m) [] h k = refl
+same_fuel zero (suc m) (t ∷ ts) h k = absurd (omega arith)
+same_fuel (suc n) zero (t ∷ ts) h k = absurd (omega arith)
+same_fuel (suc n) (suc m) (t ∷ ts) h k =
+    let plain = same_fuel n m ts (omega arith) (omega arith) in
+    let has = has_term_same n m (has_name ts) (IfSome_then (has_name ts) (has_name_within ts) (λ f w. same_fuel n m (drop 1 f.after) (omega (arith, length-drop 1 f.after)) (omega (arith, length-drop 1 f.after)))) in
+    cond_same (is_has t) _ _ _ _ has (ap (option_map (Plain t ∷◌)) plain)
+
+-- ---- one term after another
+
+pub terms-plain : (t : Tok) (ts : List Tok) → is_has t ≡ false → terms (t ∷ ts) ≡ option_map (Plain t ∷◌) (terms ts)
+unfolding terms
+terms-plain t ts e = rw e refl
+
+pub terms-has : (t : Tok) (ts : List Tok) (n : Named) → is_has t ≡ true → has_name ts ≡ Some n → terms (t ∷ ts) ≡ option_map (Has n.form n.name ∷◌) (terms (drop 1 n.after))
+unfolding terms
+terms-has t ts n e f =
+    let within : length n.after ≤ length ts = let w = has_name_within ts in rw f at w in
+    rw (e, f) (ap (option_map (Has n.form n.name ∷◌)) (same_fuel (length ts) (length (drop 1 n.after)) (drop 1 n.after) (omega (arith, length-drop 1 n.after)) (omega arith)))
+
+pub terms-bad : (t : Tok) (ts : List Tok) → is_has t ≡ true → has_name ts ≡ None → terms (t ∷ ts) ≡ None
+unfolding terms
+terms-bad t ts e f = rw (e, f) refl
+
+pub terms-nil : terms [] ≡ Some []
+unfolding terms
+terms-nil = refl
+
+-- ---- the tokens that are known, one after another
+
+known-nil : (has : List Bool) → known [] has ≡ []
+known-nil has = rw terms-nil refl
+
+plain_by : (t : Tok) (has : List Bool) (o : Option (List Term)) → option_map has_count (option_map (Plain t ∷◌) o) ≡ Some (length has)
+    → (option_map_or (λ ts. with_has ts has) (option_map (Plain t ∷◌) o) [] ≡ t ∷ option_map_or (λ ts. with_has ts has) o []) × (option_map has_count o ≡ Some (length has))
+plain_by t has None h = cc
+plain_by t has (Some ts) h = (refl, h)
+
+pub known-plain : (toks : List Tok) (t : Tok) (has : List Bool) → 0 < length toks → t ≡ get_or toks 0 t → is_has t ≡ false → HasEntries toks has → (known toks has ≡ t ∷ known (drop 1 toks) has) × HasEntries (drop 1 toks) has
+known-plain [] t has p e f h = absurd (omega arith)
+known-plain (u ∷ us) t has p e f h =
+    let g : is_has u ≡ false = rw e at f in
+    let k : option_map has_count (option_map (Plain u ∷◌) (terms us)) ≡ Some (length has) = rw (terms-plain u us g) at h in
+    let both = plain_by u has (terms us) k in
+    (rw (terms-plain u us g, e) both.0, both.1)
+
+-- what the entry of a `__has_include` leaves
+pub record PassesHas (toks after : List Tok) (has : List Bool) : Type 0 where
+  pub entry : 0 < length has
+  pub known_is : known toks has ≡ has_literal (get_or has 0 false) ∷ known (drop 1 after) (drop 1 has)
+  pub entries : HasEntries (drop 1 after) (drop 1 has)
+
+pub record PassesBy (o : Option (List Term)) (n : Named) (has : List Bool) : Type 0 where
+  pub entry : 0 < length has
+  pub known_is : option_map_or (λ ts. with_has ts has) (option_map (Has n.form n.name ∷◌) o) [] ≡ has_literal (get_or has 0 false) ∷ option_map_or (λ ts. with_has ts (drop 1 has)) o []
+  pub entries : option_map has_count o ≡ Some (length (drop 1 has))
+
+same_count : (m n : ℕ) → Some (1 + m) ≡ Some (suc n) → Some m ≡ Some n
+same_count m n e = let k : 1 + m ≡ suc n = cc in ap (λ j. Some j) (omega arith)
+
+has_by : (n : Named) (has : List Bool) (o : Option (List Term)) → option_map has_count (option_map (Has n.form n.name ∷◌) o) ≡ Some (length has) → PassesBy o n has
+has_by n has None h = cc
+has_by n [] (Some ts) h = let k : 1 + has_count ts ≡ 0 = cc in absurd (omega arith)
+has_by n (b ∷ bs) (Some ts) h = record { entry = omega arith; known_is = refl; entries = same_count (has_count ts) (length bs) h }
+
+passes_by : (t : Tok) (ts : List Tok) (n : Named) (after : List Tok) (has : List Bool) → is_has t ≡ true → has_name ts ≡ Some n → n.after ≡ after → HasEntries (t ∷ ts) has → PassesHas (t ∷ ts) after has
+passes_by t ts n after has e f g h =
+    let k : option_map has_count (option_map (Has n.form n.name ∷◌) (terms (drop 1 n.after))) ≡ Some (length has) = rw (terms-has t ts n e f) at h in
+    let all = has_by n has (terms (drop 1 n.after)) k in
+    record {
+      entry = all.entry;
+      known_is = rw (terms-has t ts n e f, ← g) all.known_is;
+      entries = rw (← g) all.entries;
+    }
+
+same_after : (f g : Form) (a b : List Tok) → ◌≡◌ {A = Option (Form × List Tok)} (Some (f, a)) (Some (g, b)) → b ≡ a
+same_after f g a b e = sym (some_pair_parts f g a b e).1
+
+shaped : (t : Tok) (ts : List Tok) (o : Option Named) (form : Form) (after : List Tok) (has : List Bool) → is_has t ≡ true → has_name ts ≡ o → ◌≡◌ {A = Option (Form × List Tok)} (Some (form, after)) (option_map shape o) → HasEntries (t ∷ ts) has → PassesHas (t ∷ ts) after has
+shaped t ts None form after has e f g h = cc
+shaped t ts (Some n) form after has e f g h = passes_by t ts n after has e f (same_after form n.form after n.after g) h
+
+pub known-has : (toks : List Tok) (t : Tok) (form : Form) (after : List Tok) (has : List Bool) → 0 < length toks → t ≡ get_or toks 0 t → is_has t ≡ true → ◌≡◌ {A = Option (Form × List Tok)} (Some (form, after)) (option_map shape (has_name (drop 1 toks))) → HasEntries toks has → PassesHas toks after has
+known-has [] t form after has p e f g h = absurd (omega arith)
+known-has (u ∷ us) t form after has p e f g h = let f' : is_has u ≡ true = rw e at f in shaped u us (has_name us) form after has f' refl g h
+
+bad_by : (t : Tok) (ts : List Tok) (o : Option Named) (has : List Bool) → is_has t ≡ true → has_name ts ≡ o → None ≡ option_map shape o → HasEntries (t ∷ ts) has → ⊥
+bad_by t ts None has e f g h = let k = rw (terms-bad t ts e f) at h in cc
+bad_by t ts (Some n) has e f g h = cc
+
+pub known-bad : (toks : List Tok) (t : Tok) (has : List Bool) → 0 < length toks → t ≡ get_or toks 0 t → is_has t ≡ true → None ≡ option_map shape (has_name (drop 1 toks)) → HasEntries toks has → ⊥
+known-bad [] t has p e f g h = absurd (omega arith)
+known-bad (u ∷ us) t has p e f g h = let f' : is_has u ≡ true = rw e at f in bad_by u us (has_name us) has f' refl g h
+
+-- the entry stands, whatever follows
+entry_by : (t : Tok) (ts : List Tok) (o : Option Named) (has : List Bool) → is_has t ≡ true → has_name ts ≡ o → HasEntries (t ∷ ts) has → (0 < length has) × (first_of (known (t ∷ ts) has) ≡ Some (has_literal (get_or has 0 false)))
+entry_by t ts None has e f h = absurd (bad_by t ts None has e f refl h)
+entry_by t ts (Some n) has e f h = let all = passes_by t ts n n.after has e f refl h in (all.entry, ap first_of all.known_is)
+
+pub known-entry : (toks : List Tok) (t : Tok) (has : List Bool) → 0 < length toks → t ≡ get_or toks 0 t → is_has t ≡ true → HasEntries toks has → (0 < length has) × (first_of (known toks has) ≡ Some (has_literal (get_or has 0 false)))
+known-entry [] t has p e f h = absurd (omega arith)
+known-entry (u ∷ us) t has p e f h = let f' : is_has u ≡ true = rw e at f in entry_by u us (has_name us) has f' refl h
+
+pub known-nothing : (toks : List Tok) (has : List Bool) → length toks ≡ 0 → known toks has ≡ []
+known-nothing [] has e = known-nil has
+known-nothing (t ∷ ts) has e = absurd (omega arith)
