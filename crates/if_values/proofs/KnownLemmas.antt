@@ -1,15 +1,19 @@
 -- The terms of tokens, one after another.
-use Rattle.std.proofs.Common.{◌≡◌, ℕ, ◌+◌, ◌<◌, ◌≤◌, zero, suc, Bool, true, false, cond, List, [], ◌∷◌, length, drop, get_or, ap, sym, refl, arith, length-drop}
-use Rattle.std.specs.Prelude.{Option, Some, None, IfSome}
+use Rattle.std.proofs.Common.{◌≡◌, ℕ, ◌+◌, ◌<◌, ◌≤◌, zero, suc, Bool, true, false, cond, List, [], ◌∷◌, ◌++◌, length, take, drop, get_or, ap, sym, ◌∙◌, refl, arith, length-drop}
+use Rattle.std.specs.Prelude.{Option, Some, None, IfSome, ◌==◌, ◌&&◌}
 use Rattle.std.specs.Option.{option_map, option_map_or}
 use Rattle.std.proofs.lemmas.Option.{IfSome_then, some_pair_parts}
-use Rattle.scan_model.specs.declared.token.Kind.TheVariants.{Header}
+use Rattle.scan_model.specs.declared.token.Kind.TheVariants.{Header, Ident, Punct}
 use Rattle.scan_model.specs.declared.token.Tok.{Tok}
 use Rattle.scan_model.specs.declared.command.Form.{Form}
 use Rattle.scan_model.specs.declared.command.Form.TheVariants.{Quoted}
+use Rattle.std.specs.List.{AllPass, prefix_len}
+use Rattle.std.proofs.lemmas.List.Elements.{All-nil, All-cons}
+use Rattle.scan_model.specs.ConditionTree.{Spelt, operator_of, unary_operators}
+use Rattle.if_values.specs.Marks.{is_unary_operator}
 use Rattle.if_values.specs.Names.{shape}
 use Rattle.if_values.specs.Items.{first_of}
-use Rattle.scan_model.specs.TokenTests.{is_of, is_sign, is_open_paren, is_close_paren, is_plain_string, unquoted}
+use Rattle.scan_model.specs.TokenTests.{begins_with, is_of, is_sign, is_open_paren, is_close_paren, is_plain_string, unquoted}
 use Rattle.scan_model.specs.HeaderName.{Named, Term, Plain, Has, nonempty, written_before, angled_rest, angled, name_of, header, header_or_name, before_close, has_name, is_has, has_term, terms_up_to, terms}
 use Rattle.scan_model.specs.Condition.{with_has, has_literal}
 use Rattle.if_values.specs.Known.{has_count, HasEntries, known}
@@ -196,3 +200,51 @@ known-entry (u ∷ us) t has p e f h = let f' : is_has u ≡ true = rw e at f in
 pub known-nothing : (toks : List Tok) (has : List Bool) → length toks ≡ 0 → known toks has ≡ []
 known-nothing [] has e = known-nil has
 known-nothing (t ∷ ts) has e = absurd (omega arith)
+
+-- ---- unary operators in a row
+
+not_ident : (n : ℕ) (p q : Bool) → ((n == 5) && p) ≡ true → ((n == 0) && q) ≡ false
+not_ident n p q h = grind arith
+
+operator_of-none : {X : Type 0} (os : List (Spelt X)) (t : Tok) → is_of Punct t ≡ false → operator_of os t ≡ None
+operator_of-none [] t e = refl
+operator_of-none (o ∷ os) t e = rw e (operator_of-none os t e)
+
+plain_by_kind : (t : Tok) (b : Bool) → is_of Punct t ≡ b → is_unary_operator t ≡ true → is_of Ident t ≡ false
+plain_by_kind t true e h = grind (arith, e)
+plain_by_kind t false e h = let none = operator_of-none unary_operators t e in let f : is_unary_operator t ≡ false = rw none refl in cc
+
+unary-plain : (t : Tok) → is_unary_operator t ≡ true → is_has t ≡ false
+unary-plain t h = let e = plain_by_kind t (is_of Punct t) refl h in rw e refl
+
+-- what a row and the tokens after it are
+pub record InRow (toks : List Tok) (has : List Bool) (n : ℕ) : Type 0 where
+  pub row : known toks has ≡ take n toks ++ known (drop n toks) has
+  pub entries : HasEntries (drop n toks) has
+  pub all : AllPass is_unary_operator (take n toks)
+  pub ended : begins_with is_unary_operator (known (drop n toks) has) ≡ false
+
+first_not : (ts : List Tok) (u : Tok) → first_of ts ≡ Some u → is_unary_operator u ≡ false → begins_with is_unary_operator ts ≡ false
+first_not [] u e h = cc
+first_not (t ∷ ts) u e h = let same : t ≡ u = cc in rw same h
+
+row_ends : (t : Tok) (ts : List Tok) (has : List Bool) (b : Bool) → is_has t ≡ b → is_unary_operator t ≡ false → HasEntries (t ∷ ts) has → begins_with is_unary_operator (known (t ∷ ts) has) ≡ false
+row_ends t ts has true e f h = first_not (known (t ∷ ts) has) (has_literal (get_or has 0 false)) (known-entry (t ∷ ts) t has (omega arith) refl e h).1 refl
+row_ends t ts has false e f h = let k = (known-plain (t ∷ ts) t has (omega arith) refl e h).0 in rw k f
+
+row_by : (t : Tok) (ts : List Tok) (has : List Bool) (b : Bool) → is_unary_operator t ≡ b → HasEntries (t ∷ ts) has → (HasEntries ts has → InRow ts has (prefix_len is_unary_operator ts)) → InRow (t ∷ ts) has (cond b (1 + prefix_len is_unary_operator ts) 0)
+row_by t ts has false e h k = record { row = refl; entries = h; all = All-nil (λ x. is_unary_operator x ≡ true); ended = row_ends t ts has (is_has t) refl e h }
+row_by t ts has true e h k =
+    let plain = known-plain (t ∷ ts) t has (omega arith) refl (unary-plain t e) h in
+    let more = k plain.1 in
+    let one : 1 + prefix_len is_unary_operator ts ≡ suc (prefix_len is_unary_operator ts) = omega arith in
+    rw one (record {
+      row = plain.0 ∙ ap (λ (us : List Tok). t ∷ us) more.row;
+      entries = more.entries;
+      all = All-cons (λ x. is_unary_operator x ≡ true) t (take (prefix_len is_unary_operator ts) ts) e more.all;
+      ended = more.ended;
+    })
+
+pub known-row : (toks : List Tok) (has : List Bool) → HasEntries toks has → InRow toks has (prefix_len is_unary_operator toks)
+known-row [] has h = record { row = refl; entries = h; all = All-nil (λ x. is_unary_operator x ≡ true); ended = let k = known-nil has in rw k refl }
+known-row (t ∷ ts) has h = row_by t ts has (is_unary_operator t) refl h (λ k. known-row ts has k)

@@ -2,3 +2,4 @@ pub mod DigitLemmas
 pub mod CharacterLemmas
 pub mod NameLemmas
 pub mod KnownLemmas
+pub mod ReadingLemmas

@@ -6,3 +6,7 @@ pub mod Levels
 pub mod Names
 pub mod Known
 pub mod Items
+pub mod Operands
+pub mod Depths
+pub mod Reading
+pub mod Marks

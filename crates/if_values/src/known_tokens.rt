@@ -1,9 +1,13 @@
-ghost use Rattle.std.specs.Prelude.{◌≡◌, ◌<◌, ◌∷◌, [], length, slice_index_or, false, MatchOption};
+ghost use Rattle.std.specs.Prelude.{◌≡◌, ◌<◌, ◌≤◌, ◌∷◌, ◌++◌, [], length, slice_index_or, false, MatchOption};
 ghost use Rattle.std.specs.Option.{option_map};
+ghost use Rattle.std.specs.List.{AllPass, prefix_len};
+ghost use Rattle.scan_model.specs.TokenTests.{begins_with};
+ghost use Rattle.if_values.specs.Marks.{is_unary_operator};
 ghost use Rattle.if_values.specs.Known.{HasEntries, known};
 ghost use Rattle.if_values.specs.Items.{token_of, first_of};
 
 use crate::header_name::has_name;
+use crate::operators::is_unary;
 use crate::token_tests::is_has;
 use scan_model::Tok;
 use std::marker::Model;
@@ -60,6 +64,33 @@ impl<'a> KnownTokens<'a> {
         *self = KnownTokens { toks, has };
         Some(item)
     }
+
+    /// Passes the unary operators that stand next in a row, and gives them.
+    pub fn pass_row(&mut self) -> &'a [Tok]
+        ensures row { self.old ≡ result.now ++ self.new }
+        ensures all { AllPass is_unary_operator result.now }
+        ensures ended { begins_with is_unary_operator self.new ≡ false }
+    {
+        let (row, toks) = self.toks.split_at(row_len(self.toks));
+        *self = KnownTokens {
+            toks,
+            has: self.has,
+        };
+        row
+    }
+}
+
+// How many unary operators stand in front in a row.
+fn row_len(toks: &[Tok]) -> usize
+    ensures value { result ≡ prefix_len is_unary_operator toks.now }
+    ensures within { result ≤ length toks.now }
+{
+    for (i, tok) in toks.iter().enumerate() {
+        if !is_unary(tok) {
+            return i;
+        }
+    }
+    toks.len()
 }
 
 // What stands first, and what is left after it.

@@ -8,9 +8,11 @@ mod arithmetic;
 mod characters;
 mod digits;
 mod escapes;
+mod faults;
 mod header_name;
 mod integer;
 mod known_tokens;
+mod operand;
 mod operators;
 mod token_tests;
 

@@ -6,6 +6,7 @@ ghost use Rattle.std.specs.Option.{option_map, option_map_or};
 ghost use Rattle.scan_model.specs.ConditionTree.{operator_of, unary_operators};
 ghost use Rattle.scan_model.specs.Condition.{is_operator};
 ghost use Rattle.if_values.specs.Operators.{binary_of, unary_of};
+ghost use Rattle.if_values.specs.Marks.{is_unary_operator};
 ghost use Rattle.if_values.specs.Levels.{operators_at, levels_from};
 
 use scan_model::{Kind, Tok};
@@ -199,8 +200,8 @@ fn is_binary(level: Level, tok: &Tok) -> bool
     binary_operator(level, tok).is_some()
 }
 
-fn is_unary(tok: &Tok) -> bool
-    ensures { result ≡ is_some (operator_of unary_operators tok.now) }
+pub(crate) fn is_unary(tok: &Tok) -> bool
+    ensures { result ≡ is_unary_operator tok.now }
 {
     unary_operator(tok).is_some()
 }

@@ -24,6 +24,20 @@ pub(crate) fn is_close_paren(tok: &Tok) -> bool
     matches!(tok.kind, Kind::Punct) && tok.text.as_slice() == b")".as_slice()
 }
 
+/// A `!` or `~`, also as a word ([lex.digraph]).
+pub(crate) fn is_bang_or_tilde(tok: &Tok) -> bool
+    ensures { result ≡ is_sign ("!" ∷ "not" ∷ "~" ∷ "compl" ∷ []) tok.now }
+{
+    matches!(tok.kind, Kind::Punct)
+        && matches!(tok.text.as_slice(), b"!" | b"not" | b"~" | b"compl")
+}
+
+pub(crate) fn is_plus_or_minus(tok: &Tok) -> bool
+    ensures { result ≡ is_sign ("+" ∷ "-" ∷ []) tok.now }
+{
+    matches!(tok.kind, Kind::Punct) && matches!(tok.text.as_slice(), b"+" | b"-")
+}
+
 pub(crate) fn is_question(tok: &Tok) -> bool
     ensures { result ≡ is_sign ("?" ∷ []) tok.now }
 {
