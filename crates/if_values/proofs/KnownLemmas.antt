@@ -10,7 +10,7 @@ use Rattle.scan_model.specs.declared.command.Form.TheVariants.{Quoted}
 use Rattle.std.specs.List.{AllPass, prefix_len}
 use Rattle.std.proofs.lemmas.List.Elements.{All-nil, All-cons}
 use Rattle.scan_model.specs.ConditionTree.{Spelt, operator_of, unary_operators}
-use Rattle.if_values.specs.Marks.{is_unary_operator}
+use Rattle.if_values.specs.UnaryRows.{is_unary_operator}
 use Rattle.if_values.specs.Names.{shape}
 use Rattle.if_values.specs.Items.{first_of}
 use Rattle.scan_model.specs.TokenTests.{begins_with, is_of, is_sign, is_open_paren, is_close_paren, is_plain_string, unquoted}

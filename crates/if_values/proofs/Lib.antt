@@ -3,3 +3,6 @@ pub mod CharacterLemmas
 pub mod NameLemmas
 pub mod KnownLemmas
 pub mod ReadingLemmas
+pub mod ClimbLemmas
+pub mod LeafLemmas
+pub mod ValueLemmas

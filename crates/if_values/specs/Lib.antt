@@ -10,3 +10,5 @@ pub mod Operands
 pub mod Depths
 pub mod Reading
 pub mod Marks
+pub mod UnaryRows
+pub mod Leaves

@@ -2,7 +2,7 @@ ghost use Rattle.std.specs.Prelude.{◌≡◌, ◌<◌, ◌≤◌, ◌∷◌, �
 ghost use Rattle.std.specs.Option.{option_map};
 ghost use Rattle.std.specs.List.{AllPass, prefix_len};
 ghost use Rattle.scan_model.specs.TokenTests.{begins_with};
-ghost use Rattle.if_values.specs.Marks.{is_unary_operator};
+ghost use Rattle.if_values.specs.UnaryRows.{is_unary_operator};
 ghost use Rattle.if_values.specs.Known.{HasEntries, known};
 ghost use Rattle.if_values.specs.Items.{token_of, first_of};
 

@@ -6,15 +6,20 @@
 
 mod arithmetic;
 mod characters;
+mod climb;
+mod condition;
 mod digits;
 mod escapes;
 mod faults;
 mod header_name;
 mod integer;
 mod known_tokens;
+mod leaves;
+mod marks;
 mod operand;
 mod operators;
 mod token_tests;
 
 pub use header_name::next_has;
+pub use condition::value;
 pub use scan_model::{CondFault, CondValue, HasAt, HasNext};

@@ -1,4 +1,4 @@
-ghost use Rattle.std.specs.Prelude.{◌≡◌, ◌&&◌, ◌||◌, nat_eq, [], ◌∷◌, is_some, Some, None, if◌then◌else◌};
+ghost use Rattle.std.specs.Prelude.{◌≡◌, ◌&&◌, ◌||◌, nat_eq, [], ◌∷◌, is_some, Some, None, IfSome, ◌+◌, if◌then◌else◌};
 ghost use lib.Pointwise.{pointwise};
 ghost use Rattle.scan_model.specs.TokenTests.{is_of};
 ghost use Rattle.scan_model.specs.declared.token.Kind.TheVariants.{Punct};
@@ -6,8 +6,8 @@ ghost use Rattle.std.specs.Option.{option_map, option_map_or};
 ghost use Rattle.scan_model.specs.ConditionTree.{operator_of, unary_operators};
 ghost use Rattle.scan_model.specs.Condition.{is_operator};
 ghost use Rattle.if_values.specs.Operators.{binary_of, unary_of};
-ghost use Rattle.if_values.specs.Marks.{is_unary_operator};
-ghost use Rattle.if_values.specs.Levels.{operators_at, levels_from};
+ghost use Rattle.if_values.specs.UnaryRows.{is_unary_operator};
+ghost use Rattle.if_values.specs.Levels.{number_of, operators_at, levels_from};
 
 use scan_model::{Kind, Tok};
 
@@ -61,7 +61,8 @@ pub(crate) enum Level {
 impl Level {
     /// The next tighter level; None exactly after the tightest.
     pub(crate) fn tighter(self) -> Option<Level>
-        ensures { levels_from self ≡ operators_at self ∷ option_map_or levels_from result [] }
+        ensures levels { levels_from self ≡ operators_at self ∷ option_map_or levels_from result [] }
+        ensures number { IfSome result (λ next. number_of next ≡ number_of self + 1) }
     {
         match self {
             Level::Disjunction => Some(Level::Conjunction),

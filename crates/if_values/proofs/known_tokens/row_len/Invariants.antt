@@ -1,6 +1,6 @@
 use Rattle.std.proofs.Common.{◌≡◌, ◌+◌, drop}
 use Rattle.std.specs.List.{prefix_len}
-use Rattle.if_values.specs.Marks.{is_unary_operator}
+use Rattle.if_values.specs.UnaryRows.{is_unary_operator}
 use Rattle.if_values.proofs.known_tokens.row_len.Given as goal
 
 abbrev pub invariant-loop-i : goal.invariant-loop-i
