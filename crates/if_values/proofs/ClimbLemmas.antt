@@ -6,7 +6,7 @@ use Rattle.std.specs.Option.{option_map, option_map_or, option_and_then}
 use Rattle.std.specs.List.{AllPass}
 use Rattle.std.proofs.lemmas.List.Elements.{All-head, All-tail}
 use Rattle.scan_model.specs.declared.token.Tok.{Tok}
-use Rattle.scan_model.specs.TokenTests.{begins_with, is_sign}
+use Rattle.scan_model.specs.TokenTests.{begins_with}
 use Rattle.scan_model.specs.Literals.{integer}
 use Rattle.scan_model.specs.ConditionTree.{Binary, Unary, Spelt, levels, operator_of, unary_operators}
 use Rattle.scan_model.specs.ConditionValue.{of_bool}
@@ -89,7 +89,7 @@ more-end (suc k) ops operand left (t ∷ ts) e = rw e refl
 abbrev NextOf : Level → List Tok → List Tok → Operand → Binary → List Tok → Type 0
 NextOf level start at left op at1 =
     (k : ℕ) × (length at1 ≤ k) × ((m n : ℕ) → length start ≤ m → length start ≤ n → binary_read (levels_from level) (unary_read m (conditional_read n)) start
-      ≡ option_and_then (λ r. more_read k (operators_at level) (binary_read (tail_of level) (unary_read m (conditional_read n))) (infix_operand op left r.operand) r.after) (binary_read (tail_of level) (unary_read m (conditional_read n)) at1))
+    ≡ option_and_then (λ r. more_read k (operators_at level) (binary_read (tail_of level) (unary_read m (conditional_read n))) (infix_operand op left r.operand) r.after) (binary_read (tail_of level) (unary_read m (conditional_read n)) at1))
 
 next_by : (level : Level) (start at at1 : List Tok) (left : Operand) (op : Binary) (t : Tok) (fuel : ℕ) → length at ≤ fuel
     → ((m n : ℕ) → length start ≤ m → length start ≤ n → binary_read (levels_from level) (unary_read m (conditional_read n)) start ≡ more_read fuel (operators_at level) (binary_read (tail_of level) (unary_read m (conditional_read n))) left at)
@@ -99,7 +99,7 @@ next_by level start at at1 left op t (suc k) h same e f = (
   k,
   omega (arith, ap length e),
   λ m n p q. same m n p q ∙ (ap (more_read (suc k) (operators_at level) (binary_read (tail_of level) (unary_read m (conditional_read n))) left) e
-    ∙ more-operator k (operators_at level) (binary_read (tail_of level) (unary_read m (conditional_read n))) left t at1 op f),
+      ∙ more-operator k (operators_at level) (binary_read (tail_of level) (unary_read m (conditional_read n))) left t at1 op f),
 )
 
 next_of : (level : Level) (start at at1 : List Tok) (left : Operand) (op : Binary) → Climbs level start at left → PassesOperator (operators_at level) at (Some op) at1 → NextOf level start at left op at1

@@ -1,6 +1,6 @@
 -- The table of attributes, as the definition has it.
 use Rattle.std.proofs.Common.{◌≡◌, ℕ, Bool, true, false, cond, List, [], ◌∷◌, ◌∙◌, ap, refl}
-use Rattle.std.specs.Prelude.{Option, Some, None, unwrap_or}
+use Rattle.std.specs.Prelude.{Option, Some, unwrap_or}
 use Rattle.std.specs.Option.{option_map}
 use Rattle.std.specs.List.{find}
 use Rattle.word_table.specs.Rows.{Entry, value_of, has_word}

@@ -1,5 +1,5 @@
 -- What takes no further condition: literals and identifiers.
-use Rattle.std.specs.Prelude.{if◌then◌else◌, ℕ, List, Option, Some, None, Bool}
+use Rattle.std.specs.Prelude.{if◌then◌else◌, ℕ, List, Option, Some, None}
 use Rattle.std.specs.Option.{option_map}
 use Rattle.scan_model.specs.declared.token.Kind.TheVariants.{Ident, Number, Char}
 use Rattle.scan_model.specs.declared.token.Tok.{Tok}

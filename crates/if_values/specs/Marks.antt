@@ -1,9 +1,9 @@
 -- Tests of what stands next.
-use Rattle.std.specs.Prelude.{◌≡◌, Bool, true, false, is_some, List, [], ◌∷◌, Option, Some, None}
+use Rattle.std.specs.Prelude.{◌≡◌, Bool, true, false, List, [], ◌∷◌, Option, Some, None}
 use Rattle.std.specs.Option.{option_and_then}
 use Rattle.scan_model.specs.declared.token.Tok.{Tok}
 use Rattle.scan_model.specs.TokenTests.{is_sign, is_close_paren, begins_with}
-use Rattle.scan_model.specs.ConditionTree.{Binary, Spelt, operator_of, unary_operators}
+use Rattle.scan_model.specs.ConditionTree.{Binary, Spelt, operator_of}
 use Rattle.if_values.specs.declared.marks.Mark.{Mark}
 use Rattle.if_values.specs.declared.marks.Mark.TheVariants.{Question, Colon, Close}
 use Rattle.if_values.specs.Items.{first_of}

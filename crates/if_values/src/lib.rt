@@ -20,6 +20,6 @@ mod operand;
 mod operators;
 mod token_tests;
 
-pub use header_name::next_has;
 pub use condition::value;
+pub use header_name::next_has;
 pub use scan_model::{CondFault, CondValue, HasAt, HasNext};
