@@ -248,3 +248,74 @@ row_by t ts has true e h k =
 pub known-row : (toks : List Tok) (has : List Bool) → HasEntries toks has → InRow toks has (prefix_len is_unary_operator toks)
 known-row [] has h = record { row = refl; entries = h; all = All-nil (λ x. is_unary_operator x ≡ true); ended = let k = known-nil has in rw k refl }
 known-row (t ∷ ts) has h = row_by t ts has (is_unary_operator t) refl h (λ k. known-row ts has k)
+
+-- ---- how many there are
+
+count_plain_by : (t : Tok) (o : Option (List Term)) → option_map has_count (option_map (Plain t ∷◌) o) ≡ option_map has_count o
+count_plain_by t None = refl
+count_plain_by t (Some ts) = refl
+
+count_has_by : (n : Named) (o : Option (List Term)) → option_map has_count (option_map (Has n.form n.name ∷◌) o) ≡ option_map (λ k. 1 + k) (option_map has_count o)
+count_has_by n None = refl
+count_has_by n (Some ts) = refl
+
+pub count-plain : (toks rest : List Tok) (t : Tok) → 0 < length toks → t ≡ get_or toks 0 t → is_has t ≡ false → rest ≡ drop 1 toks → option_map has_count (terms rest) ≡ option_map has_count (terms toks)
+count-plain [] rest t p e f r = absurd (omega arith)
+count-plain (u ∷ us) rest t p e f r = let g : is_has u ≡ false = rw e at f in rw (terms-plain u us g, r) (sym (count_plain_by u (terms us)))
+
+count_shaped : (t : Tok) (ts : List Tok) (o : Option Named) (form : Form) (after : List Tok) → is_has t ≡ true → has_name ts ≡ o → ◌≡◌ {A = Option (Form × List Tok)} (Some (form, after)) (option_map shape o) → option_map (λ k. 1 + k) (option_map has_count (terms (drop 1 after))) ≡ option_map has_count (terms (t ∷ ts))
+count_shaped t ts None form after e f g = cc
+count_shaped t ts (Some n) form after e f g = let same : n.after ≡ after = same_after form n.form after n.after g in rw (terms-has t ts n e f, ← same) (sym (count_has_by n (terms (drop 1 n.after))))
+
+pub count-has : (toks rest : List Tok) (t : Tok) (form : Form) (after : List Tok) → 0 < length toks → t ≡ get_or toks 0 t → is_has t ≡ true → rest ≡ drop 1 toks → ◌≡◌ {A = Option (Form × List Tok)} (Some (form, after)) (option_map shape (has_name rest)) → option_map (λ k. 1 + k) (option_map has_count (terms (drop 1 after))) ≡ option_map has_count (terms toks)
+count-has [] rest t form after p e f r g = absurd (omega arith)
+count-has (u ∷ us) rest t form after p e f r g =
+    let k : is_has u ≡ true = rw e at f in
+    let h : ◌≡◌ {A = Option (Form × List Tok)} (Some (form, after)) (option_map shape (has_name us)) = rw r at g in
+    count_shaped u us (has_name us) form after k refl h
+
+count_bad_by : (t : Tok) (ts : List Tok) (o : Option Named) → is_has t ≡ true → has_name ts ≡ o → None ≡ option_map shape o → None ≡ option_map has_count (terms (t ∷ ts))
+count_bad_by t ts None e f g = rw (terms-bad t ts e f) refl
+count_bad_by t ts (Some n) e f g = cc
+
+pub count-bad : (toks rest : List Tok) (t : Tok) → 0 < length toks → t ≡ get_or toks 0 t → is_has t ≡ true → rest ≡ drop 1 toks → None ≡ option_map shape (has_name rest) → None ≡ option_map has_count (terms toks)
+count-bad [] rest t p e f r g = absurd (omega arith)
+count-bad (u ∷ us) rest t p e f r g = let k : is_has u ≡ true = rw e at f in let h : None ≡ option_map shape (has_name us) = rw r at g in count_bad_by u us (has_name us) k refl h
+
+pub count-nil : (toks : List Tok) → length toks ≡ 0 → Some 0 ≡ option_map has_count (terms toks)
+count-nil [] e = rw terms-nil refl
+count-nil (t ∷ ts) e = absurd (omega arith)
+
+-- so many were counted before the rest
+pub record Counts (toks rest : List Tok) (found : ℕ) : Type 0 where
+  pub within : found + length rest ≤ length toks
+  pub same : option_map has_count (terms toks) ≡ option_map (λ k. found + k) (option_map has_count (terms rest))
+
+no_more : (o : Option ℕ) → o ≡ option_map (λ k. 0 + k) o
+no_more None = refl
+no_more (Some n) = ap (λ k. Some k) (omega arith)
+
+pub counts-init : (toks : List Tok) → Counts toks toks 0
+counts-init toks = record { within = omega arith; same = no_more (option_map has_count (terms toks)) }
+
+pub counts-plain : (toks rest after : List Tok) (t : Tok) (found : ℕ) → Counts toks rest found → 0 < length rest → t ≡ get_or rest 0 t → is_has t ≡ false → after ≡ drop 1 rest → Counts toks after found
+counts-plain toks rest after t found c p e f r = record {
+  within = let w = c.within in let l = ap length r in omega (arith, w, l, length-drop 1 rest);
+  same = c.same ∙ ap (option_map (λ k. found + k)) (sym (count-plain rest after t p e f r));
+}
+
+one_counted : (found : ℕ) (o : Option ℕ) → option_map (λ k. found + k) (option_map (λ k. 1 + k) o) ≡ option_map (λ k. found + 1 + k) o
+one_counted found None = refl
+one_counted found (Some n) = ap (λ k. Some k) (omega arith)
+
+pub counts-has : (toks rest after further : List Tok) (t : Tok) (found : ℕ) (form : Form) (left : List Tok) → Counts toks rest found → 0 < length rest → t ≡ get_or rest 0 t → is_has t ≡ true → after ≡ drop 1 rest → ◌≡◌ {A = Option (Form × List Tok)} (Some (form, left)) (option_map shape (has_name after)) → length left + 2 ≤ length after → further ≡ drop 1 left → Counts toks further (found + 1)
+counts-has toks rest after further t found form left c p e f r g w k = record {
+  within = let v = c.within in let l = ap length r in let m = ap length k in omega (arith, v, l, m, length-drop 1 rest, length-drop 1 left);
+  same = c.same ∙ (ap (option_map (λ k. found + k)) (sym (count-has rest after t form left p e f r g)) ∙ (one_counted found (option_map has_count (terms (drop 1 left))) ∙ ap (λ (ts : List Tok). option_map (λ k. found + 1 + k) (option_map has_count (terms ts))) (sym k)));
+}
+
+pub counts-bad : (toks rest after : List Tok) (t : Tok) (found : ℕ) → Counts toks rest found → 0 < length rest → t ≡ get_or rest 0 t → is_has t ≡ true → after ≡ drop 1 rest → None ≡ option_map shape (has_name after) → None ≡ option_map has_count (terms toks)
+counts-bad toks rest after t found c p e f r g = sym (c.same ∙ ap (option_map (λ k. found + k)) (sym (count-bad rest after t p e f r g)))
+
+pub counts-end : (toks rest : List Tok) (found : ℕ) → Counts toks rest found → length rest ≡ 0 → Some found ≡ option_map has_count (terms toks)
+counts-end toks rest found c e = sym (c.same ∙ (ap (option_map (λ k. found + k)) (sym (count-nil rest e)) ∙ ap (λ k. Some k) (omega arith)))

@@ -23,3 +23,6 @@ mod token_tests;
 pub use condition::value;
 pub use header_name::next_has;
 pub use scan_model::{CondFault, CondValue, HasAt, HasNext};
+
+#[cfg(test)]
+mod tests;
