@@ -65,14 +65,14 @@ fn count(toks: &[Tok]) -> Option<usize>
     'terms: while !rest.is_empty() {
         let tok = &rest[0];
         let (_, after) = rest.split_at(1);
-        if is_has(tok) {
-            let name = has_name(after)?;
-            let (_, further) = name.after.split_at(1);
-            rest = further;
-            found += 1;
-        } else {
+        if !is_has(tok) {
             rest = after;
+            continue;
         }
+        let name = has_name(after)?;
+        let (_, further) = name.after.split_at(1);
+        rest = further;
+        found += 1;
     }
     Some(found)
 }
@@ -122,7 +122,9 @@ fn all_are(rt: &impl Abort, alloc: Global, rows: &[Row], unsigned: bool) -> Resu
 }
 
 const MINUS_ONE: u64 = u64::MAX;
+
 const MINUS_TWO: u64 = u64::MAX - 1;
+
 const MINUS_THREE: u64 = u64::MAX - 2;
 
 const OPERATORS: [Row; 36] = rows![
@@ -211,21 +213,75 @@ fn all_fail(
 }
 
 const BAD_NUMBERS: [Refused; 24] = refused![
-    "18446744073709551616", "0x10000000000000000", "08", "0x", "0b2", "1.0", "1e5", "1lL", "1uu", "1''0", "5x",
-    "0 && 08", "08 +", "1 / 0 + 08", "''", "'abcde'", "'\\400'", "'\\q'", "'\\x'", "'\\x100'", "L'ab'", "'a'_x", "u''",
+    "18446744073709551616",
+    "0x10000000000000000",
+    "08",
+    "0x",
+    "0b2",
+    "1.0",
+    "1e5",
+    "1lL",
+    "1uu",
+    "1''0",
+    "5x",
+    "0 && 08",
+    "08 +",
+    "1 / 0 + 08",
+    "''",
+    "'abcde'",
+    "'\\400'",
+    "'\\q'",
+    "'\\x'",
+    "'\\x100'",
+    "L'ab'",
+    "'a'_x",
+    "u''",
     "__has_cpp_attribute ( 08 )",
 ];
 
 const BAD_CONDITIONS: [Refused; 24] = refused![
-    "", "1 2", "1 +", "+", "( 1", "1 )", "( )", "1 , 2", "( 1 , 2 )", "1 = 2", "1 <=> 2", "\"a\"", "1 ?", "1 ? 2", "1 ? 2 :",
-    "1 ? : 2", "1 : 2", "defined", "defined X", "defined ( X )", "__has_cpp_attribute", "__has_cpp_attribute ( )",
-    "1 / 0 +", "__has_cpp_attribute ( a :: b :: c )",
+    "",
+    "1 2",
+    "1 +",
+    "+",
+    "( 1",
+    "1 )",
+    "( )",
+    "1 , 2",
+    "( 1 , 2 )",
+    "1 = 2",
+    "1 <=> 2",
+    "\"a\"",
+    "1 ?",
+    "1 ? 2",
+    "1 ? 2 :",
+    "1 ? : 2",
+    "1 : 2",
+    "defined",
+    "defined X",
+    "defined ( X )",
+    "__has_cpp_attribute",
+    "__has_cpp_attribute ( )",
+    "1 / 0 +",
+    "__has_cpp_attribute ( a :: b :: c )",
 ];
 
-const DIVISIONS: [Refused; 5] = refused!["1 % 0", "1 / 0", "1 / 0 + ( 1 << 64 )", "1 && 1 / 0", "- 1 / 0u"];
+const DIVISIONS: [Refused; 5] = refused![
+    "1 % 0",
+    "1 / 0",
+    "1 / 0 + ( 1 << 64 )",
+    "1 && 1 / 0",
+    "- 1 / 0u"
+];
 
-const SHIFTS: [Refused; 6] =
-    refused!["1 << 64", "1 >> 64", "1 << - 1", "1 >> - 1", "( 1 << 64 ) / 0", "0 << 18446744073709551615"];
+const SHIFTS: [Refused; 6] = refused![
+    "1 << 64",
+    "1 >> 64",
+    "1 << - 1",
+    "1 >> - 1",
+    "( 1 << 64 ) / 0",
+    "0 << 18446744073709551615"
+];
 
 #[test]
 fn faults_by_hand(rt: HostRuntime) -> Result<(), Fail> {
@@ -296,7 +352,8 @@ fn names_by_hand(rt: HostRuntime) -> Result<(), Fail> {
         bits: 1,
         unsigned: false,
     });
-    let words = "__has_include ( <a> ) + 2 * __has_include ( \"b\" ) == __has_include ( < c / d > )";
+    let words =
+        "__has_include ( <a> ) + 2 * __has_include ( \"b\" ) == __has_include ( < c / d > )";
     assert_eq!(rt; value_of(alloc, words, &[true, false, true])?, one);
     Ok(())
 }
