@@ -1,0 +1,14 @@
+pub mod Operators
+pub mod Digits
+pub mod Characters
+pub mod Escapes
+pub mod Levels
+pub mod Names
+pub mod Known
+pub mod Items
+pub mod Operands
+pub mod Depths
+pub mod Reading
+pub mod Marks
+pub mod UnaryRows
+pub mod Leaves
