@@ -1,0 +1,9 @@
+//! The macros of a unit: a finite map from names to definitions, those that `push_macro` saved, and what the tokens
+//! after `#define` define ([cpp.replace], [cpp.predefined]).
+#![tactic(auto)]
+
+mod slot;
+mod table;
+
+pub use scan_model::{BuiltIn, Def, FunctionDef};
+pub use table::Macros;
