@@ -1,3 +1,4 @@
 pub mod Definition
 pub mod Table
 pub mod Entries
+pub mod Heads

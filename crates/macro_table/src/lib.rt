@@ -2,8 +2,11 @@
 //! after `#define` define ([cpp.replace], [cpp.predefined]).
 #![tactic(auto)]
 
+mod copies;
+mod head;
 mod slot;
 mod table;
+mod token_tests;
 
 pub use scan_model::{BuiltIn, Def, FunctionDef};
 pub use table::Macros;

@@ -1,11 +1,11 @@
-ghost use Rattle.std.specs.Prelude.{◌≡◌, IfSome, OnOk, OnErr};
+ghost use Rattle.std.specs.Prelude.{◌≡◌, Some, IfSome, IfOk, OnOk, OnErr};
 ghost use Rattle.std.specs.Option.{option_copied};
 ghost use Rattle.scan_model.specs.Macros as map;
 ghost use Rattle.macro_table.specs.Table.{macros_of};
 ghost use Rattle.macro_table.specs.Definition.{Fits, IsDefinition};
 
 use crate::slot::Slot;
-use scan_model::{Bytes, Def, NoMemory};
+use scan_model::{BuiltIn, Bytes, Def, NoMemory};
 use std::alloc::Global;
 use std::collections::HashMap;
 use std::marker::Model;
@@ -32,6 +32,26 @@ impl Model for Macros {
 }
 
 impl Macros {
+    /// The macros that the language itself defines ([cpp.predefined], [cpp.cond]), and `__COUNTER__`.
+    #[tactic(auto, unfolding(crate::specs::Table::macros_of, scan_model::specs::Macros::built_ins))]
+    pub fn new(alloc: Global) -> Result<Macros, NoMemory>
+        ensures { IfOk result (λ macros. macros_of macros ≡ map.built_ins) }
+    {
+        let mut macros = Macros {
+            alloc,
+            slots: HashMap::new(alloc),
+        };
+        macros.set_built_in(b"__has_cpp_attribute", BuiltIn::HasAttribute)?;
+        macros.set_built_in(b"__has_include", BuiltIn::HasInclude)?;
+        macros.set_built_in(b"__cplusplus", BuiltIn::Cplusplus)?;
+        macros.set_built_in(b"__COUNTER__", BuiltIn::Counter)?;
+        macros.set_built_in(b"__TIME__", BuiltIn::Time)?;
+        macros.set_built_in(b"__DATE__", BuiltIn::Date)?;
+        macros.set_built_in(b"__LINE__", BuiltIn::Line)?;
+        macros.set_built_in(b"__FILE__", BuiltIn::File)?;
+        Ok(macros)
+    }
+
     /// The definition of a name; None exactly where it has none.
     pub fn get(&self, name: &[u8]) -> Option<&Def>
         ensures value { option_copied result ≡ (macros_of self.now).defs name.now }
@@ -86,6 +106,14 @@ impl Macros {
         }
     }
 
+    fn set_built_in(&mut self, name: &[u8], built_in: BuiltIn) -> Result<(), NoMemory>
+        requires { map.built_in name.now ≡ Some (Def.BuiltIn built_in) }
+        ensures { OnOk result (macros_of self.new ≡ map.define (macros_of self.old) name.now (Def.BuiltIn built_in)) }
+    {
+        self.set(name, Def::BuiltIn(built_in))
+    }
+
+    // Want of memory changes nothing.
     fn set(&mut self, name: &[u8], def: Def) -> Result<(), NoMemory>
         requires { Fits name.now def }
         ensures ok { OnOk result (macros_of self.new ≡ map.define (macros_of self.old) name.now def) }
