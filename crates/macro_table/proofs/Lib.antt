@@ -1,3 +1,5 @@
 pub mod Lookups
 pub mod Changes
 pub mod HeadLemmas
+pub mod Distinct
+pub mod Ends

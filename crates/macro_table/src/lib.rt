@@ -4,6 +4,9 @@
 
 mod copies;
 mod head;
+mod names;
+mod parentheses;
+mod replacement;
 mod slot;
 mod table;
 mod token_tests;
