@@ -3,6 +3,8 @@
 #![tactic(auto)]
 
 mod copies;
+mod define;
+mod function;
 mod head;
 mod names;
 mod parentheses;
@@ -11,5 +13,6 @@ mod slot;
 mod table;
 mod token_tests;
 
+pub use define::{BadDefine, read_define};
 pub use scan_model::{BuiltIn, Def, FunctionDef};
 pub use table::Macros;
