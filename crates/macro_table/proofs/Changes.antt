@@ -3,7 +3,7 @@ use Rattle.std.proofs.Common.{◌≡◌, ℕ, Bool, true, false, cond, inl, inr,
 use Rattle.std.specs.Prelude.{Option, Some, None, IfSome, All, Result, Ok, Err, OnOk, OnErr, not, ◌&&◌}
 use Rattle.scan_model.specs.declared.memory.NoMemory.{NoMemory}
 use Rattle.std.specs.Option.{option_and_then, option_map_or}
-use Rattle.std.specs.Cmp.Lexicographic.{bytes_decides, nat_list_eq_equiv}
+use Rattle.std.specs.Cmp.Lexicographic.{bytes_decides}
 use Rattle.std.proofs.lemmas.Bool.{cases_Bool, cond-true, cond-false, true≢false}
 use Rattle.scan_model.specs.declared.macros.Def.{Def}
 use Rattle.scan_model.specs.Macros.{Macros, put, define, undef, push, pop, restored as restored_map}
@@ -14,7 +14,7 @@ use Rattle.scan_model.specs.MacroDefinition.{is_forbidden}
 use Rattle.macro_table.specs.Definition.{IsDefinition, Fits, AreSound}
 use Rattle.std.specs.Map.{lookup, set_value, KeepsOthers}
 use Rattle.std.proofs.lemmas.Map.Steps.{set_value_same}
-use Rattle.std.proofs.lemmas.List.Elements.{All-cons, All-head, All-tail}
+use Rattle.std.proofs.lemmas.List.Elements.{All-nil, All-cons, All-head, All-tail}
 use Rattle.std.specs.declared.alloc.Global.{Global}
 use Rattle.std.specs.declared.vec.Vec.{Vec}
 use Rattle.macro_table.specs.Entries.{entries}
@@ -132,6 +132,10 @@ MayHave name def = IfSome def (Fits name)
 
 abbrev MaySave : List ℕ → List (Option Def) → Type 0
 MaySave name defs = All (MayHave name) defs
+
+pub AreSound-empty : AreSound (macros_of [])
+unfolding macros_of
+AreSound-empty = record { current = λ name. tt; saved = λ name. All-nil (MayHave name) }
 
 pub AreSound-define : (m : Macros) (name : List ℕ) (def : Def) → Fits name def → AreSound m → AreSound (define m name def)
 AreSound-define m name def fits sound = record { current = put_keeps MayHave m.defs name (Some def) fits sound.current; saved = sound.saved }

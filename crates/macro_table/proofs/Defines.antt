@@ -26,9 +26,9 @@ pub is_function-by_set : (keys : List (Bor (List ℕ))) (names params : List (Li
 is_function-by_set keys names params variadic body all distinct same operands =
     let v = is_some variadic in
     ap (λ has. fits_by has v body) same ∙ by_names names v body
-      ∙ ap (λ b. true && b && body_fits names v body) operands
-      ∙ ap (λ b. b && has_operands body && body_fits names v body) distinct
-      ∙ ap (λ ns. are_distinct ns && has_operands body && body_fits ns v body) all
+    ∙ ap (λ b. true && b && body_fits names v body) operands
+    ∙ ap (λ b. b && has_operands body && body_fits names v body) distinct
+    ∙ ap (λ ns. are_distinct ns && has_operands body && body_fits ns v body) all
 
 pub is_some-text : (name : Option (Bor (List ℕ))) → is_some name ≡ is_some (text name)
 is_some-text None = refl

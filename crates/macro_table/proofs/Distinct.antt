@@ -34,8 +34,8 @@ pub are_distinct-push : (ss : List (List ℕ)) (x : List ℕ) → are_distinct (
 are_distinct-push [] x = refl
 are_distinct-push (s ∷ ss) x =
     ap (λ b. not b && are_distinct (ss ++ x ∷ [])) (is_among-push ss x s ∙ ap (λ b. cond b true (is_among ss s)) (nat_list_eq_equiv.symm x s))
-      ∙ ap (λ b. not (cond (same s x) true (is_among ss s)) && b) (are_distinct-push ss x)
-      ∙ apart (same s x) (is_among ss s) (are_distinct ss) (is_among ss x)
+    ∙ ap (λ b. not (cond (same s x) true (is_among ss s)) && b) (are_distinct-push ss x)
+    ∙ apart (same s x) (is_among ss s) (are_distinct ss) (is_among ss x)
   where
     apart : (a b d e : Bool) → (not (cond a true b) && (d && not e)) ≡ ((not b && d) && not (a || e))
     apart true true d e = refl

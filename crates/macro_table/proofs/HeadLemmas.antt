@@ -1,6 +1,6 @@
 -- How a parameter list goes on.
 use Rattle.std.proofs.Common.{◌≡◌, ℕ, Bool, true, false, List, [], ◌∷◌, ◌++◌, refl, sym, ap, ◌∙◌, drop, get_or, append_assoc, ◌||◌}
-use Rattle.std.specs.Prelude.{Option, Some, None, codes, not, ◌&&◌, if◌then◌else◌}
+use Rattle.std.specs.Prelude.{Option, Some, None, codes}
 use Rattle.std.specs.Option.{option_map}
 use Rattle.std.specs.Borrow.{Bor}
 use Rattle.std.specs.Cmp.Lexicographic.{bytes_decides}
@@ -49,7 +49,7 @@ head_after-param names (d ∷ []) t g = absurd (true≢false (sym g))
 head_after-param names (d ∷ u ∷ ts) t g =
     let both = and_parts (is_of Ident d) (is_comma u) g in
     with_params-push names d.text (more_params ts)
-      ∙ ap (option_map (with_params names)) (sym (more_params-goes_on d u ts both.0 both.1))
+    ∙ ap (option_map (with_params names)) (sym (more_params-goes_on d u ts both.0 both.1))
 
 no_params : (o : Option Head) → option_map (with_params []) o ≡ o
 no_params None = refl

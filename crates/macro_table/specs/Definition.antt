@@ -1,5 +1,5 @@
 -- What every definition of a table keeps ([cpp.replace]).
-use Rattle.std.specs.Prelude.{◌≡◌, ℕ, Bool, true, false, not, ◌&&◌, List, Option, Some, is_some, IsTrue, IfSome, All}
+use Rattle.std.specs.Prelude.{◌≡◌, ℕ, Bool, false, not, ◌&&◌, List, Option, Some, is_some, IsTrue, IfSome, All}
 use Rattle.scan_model.specs.declared.macros.Def.{Def}
 use Rattle.scan_model.specs.declared.macros.Def.TheVariants.{Object, Function, BuiltIn}
 use Rattle.scan_model.specs.declared.token.Kind.TheVariants.{Ident}

@@ -25,10 +25,7 @@ pub struct BadDefine;
 /// - `##` begins or ends the replacement list or the content of a `__VA_OPT__`;
 /// - `#` stands in a function-like macro before neither a parameter nor, in a variadic one, `__VA_OPT__`;
 /// - `__VA_OPT__` in a variadic macro isn't followed by its content in parentheses, or stands in another's.
-pub fn read_define(
-    alloc: Global,
-    toks: &[Tok],
-) -> Result<Result<(Bytes, Def), BadDefine>, NoMemory>
+pub fn read_define(alloc: Global, toks: &[Tok]) -> Result<Result<(Bytes, Def), BadDefine>, NoMemory>
     ensures value { IfOk result (λ defined. result_ok defined ≡ definition.read_define toks.now) }
     ensures sound { IfOk result (λ defined. IfOk defined (λ d. IsDefinition d.0 d.1)) }
 {

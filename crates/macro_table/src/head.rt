@@ -53,10 +53,7 @@ fn begins_with_close(toks: &[Tok]) -> bool
     !toks.is_empty() && is_close_paren(&toks[0])
 }
 
-fn read_params<'a>(
-    params: Vec<&'a [u8]>,
-    toks: &'a [Tok],
-) -> Result<Option<Head<'a>>, NoMemory>
+fn read_params<'a>(params: Vec<&'a [u8]>, toks: &'a [Tok]) -> Result<Option<Head<'a>>, NoMemory>
     ensures { IfOk result (λ head. head ≡ head_after (texts params.entry.items) toks.now) }
 {
     let mut params = params;
@@ -84,10 +81,7 @@ fn past_param(toks: &[Tok]) -> &[Tok]
 }
 
 /// The last of the list: a parameter, `name...` or `...`, and the `)`.
-fn end_params<'a>(
-    params: Vec<&'a [u8]>,
-    rest: &'a [Tok],
-) -> Result<Option<Head<'a>>, NoMemory>
+fn end_params<'a>(params: Vec<&'a [u8]>, rest: &'a [Tok]) -> Result<Option<Head<'a>>, NoMemory>
     requires { goes_on rest.now ≡ false }
     ensures { IfOk result (λ head. head ≡ head_after (texts params.entry.items) rest.now) }
 {

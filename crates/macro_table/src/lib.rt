@@ -16,3 +16,6 @@ mod token_tests;
 pub use define::{BadDefine, read_define};
 pub use scan_model::{BuiltIn, Def, FunctionDef};
 pub use table::Macros;
+
+#[cfg(test)]
+mod tests;

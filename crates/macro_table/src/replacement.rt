@@ -36,9 +36,7 @@ pub(crate) fn fits(names: &HashSet<&[u8]>, is_variadic: bool, toks: &[Tok]) -> b
     if !is_variadic {
         return hashes_fit(names, false, toks);
     }
-    hashes_fit(names, true, toks)
-        && opts_fit(toks)
-        && !names.contains(b"__VA_OPT__".as_slice())
+    hashes_fit(names, true, toks) && opts_fit(toks) && !names.contains(b"__VA_OPT__".as_slice())
 }
 
 /// Whether each `#` stands before what it may make a string of.

@@ -33,7 +33,6 @@ impl Model for Macros {
 
 impl Macros {
     /// The macros that the language itself defines ([cpp.predefined], [cpp.cond]), and `__COUNTER__`.
-    #[tactic(auto, unfolding(crate::specs::Table::macros_of, scan_model::specs::Macros::built_ins))]
     pub fn new(alloc: Global) -> Result<Macros, NoMemory>
         ensures { IfOk result (λ macros. macros_of macros ≡ map.built_ins) }
     {

@@ -1,4 +1,4 @@
-use Rattle.std.proofs.Common.{ℕ, List, get_or, ap, sym, ◌∙◌, Some, None}
+use Rattle.std.proofs.Common.{ℕ, List, get_or, ap, sym, ◌∙◌, Some}
 use Rattle.std.specs.Option.{option_map}
 use Rattle.scan_model.specs.declared.macros.Def.{Def}
 use Rattle.scan_model.specs.MacroDefinition.{def_of}
@@ -13,7 +13,7 @@ returns-in_ok-copy-in-Some-clause-value c =
     let first = get_or c.args.toks.now 0 c.index-toks-0.result in
     let def = sym c.in-Some.is ∙ c.in_ok-def.ensures ∙ ap def_of (rest_is c.args.toks.now) in
     ap (λ (n : List ℕ). Some (n, c.in-Some.def)) (c.in_ok-copy-in-Some.ensures ∙ c.as_slice.ensures)
-      ∙ ap (option_map (λ (d : Def). (first.text, d))) def ∙ read_define-named c.args.toks.now c.index-toks-0.result c.if-not-begins_with_name.ensures
+    ∙ ap (option_map (λ (d : Def). (first.text, d))) def ∙ read_define-named c.args.toks.now c.index-toks-0.result c.if-not-begins_with_name.ensures
 
 pub returns-in_ok-copy-in-Some-clause-sound : goal.returns-in_ok-copy-in-Some-clause-sound
 returns-in_ok-copy-in-Some-clause-sound c =

@@ -1,5 +1,5 @@
 use Rattle.std.proofs.Common.{ℕ, List, [], ◌∷◌, ◌++◌, sym, ◌∙◌, ap}
-use Rattle.macro_table.specs.Heads.{texts, head_after}
+use Rattle.macro_table.specs.Heads.{texts}
 use Rattle.macro_table.proofs.HeadLemmas.{texts-push, head_after-param}
 use Rattle.macro_table.proofs.head.read_params.Goals as goal
 

@@ -1,4 +1,4 @@
-use Rattle.std.proofs.Common.{◌≡◌, ℕ, Bool, true, false, cond, List, [], Bor, refl, sym, ◌∙◌, ap, get_or, take, arith}
+use Rattle.std.proofs.Common.{◌≡◌, Bool, true, false, cond, [], refl, sym, ◌∙◌, ap, get_or, take, arith}
 use Rattle.std.specs.Prelude.{not, ◌&&◌}
 use Rattle.std.proofs.lemmas.List.{take_all}
 use Rattle.scan_model.specs.MacroDefinition.{are_distinct}

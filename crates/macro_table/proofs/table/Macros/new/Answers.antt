@@ -1,8 +1,11 @@
-use Rattle.std.proofs.Common.{◌≡◌, refl, ap, ◌∙◌}
+use Rattle.std.proofs.Common.{refl}
 use Rattle.scan_model.specs.Macros.{built_ins}
 use Rattle.macro_table.specs.Table.{macros_of}
-use Rattle.macro_table.specs.Entries.{entries}
+use Rattle.macro_table.proofs.Changes.{AreSound-empty}
 use Rattle.macro_table.proofs.table.Macros.new.Goals as goal
+
+pub invariant_of-macros : goal.invariant_of-macros
+invariant_of-macros c = rw c.new.ensures.empty AreSound-empty
 
 pub returns : goal.returns
 unfolding built_ins macros_of

@@ -1,6 +1,6 @@
 use Rattle.std.proofs.Common.{◌≡◌, refl, sym, ◌∙◌, ap, subst, rules, Some}
 use Rattle.scan_model.specs.Macros as map
-use Rattle.macro_table.specs.Table.{macros_of, fresh, saving}
+use Rattle.macro_table.specs.Table.{macros_of, saving}
 use Rattle.macro_table.specs.Entries.{entries}
 use Rattle.macro_table.specs.Definition.{AreSound}
 use Rattle.macro_table.proofs.Changes.{absent, from_equal, macros_of-push, AreSound-push, Pushes, pushes, AreSound-pushes}

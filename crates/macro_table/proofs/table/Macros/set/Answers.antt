@@ -1,5 +1,5 @@
 use Rattle.std.proofs.Common.{refl, sym, ◌∙◌, ap, subst, rules, Some}
-use Rattle.macro_table.specs.Table.{SlotView, fresh, defined}
+use Rattle.macro_table.specs.Table.{fresh, defined}
 use Rattle.macro_table.specs.Definition.{AreSound}
 use Rattle.macro_table.proofs.Changes.{found, absent, from_equal, macros_of-define, AreSound-define}
 use Rattle.macro_table.proofs.table.Macros.set.Goals as goal
