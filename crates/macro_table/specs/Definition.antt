@@ -18,7 +18,7 @@ is_function params variadic body =
 abbrev pub is_replacement : Def → Bool
 is_replacement (Object body) = has_operands body
 is_replacement (Function f) = is_function f.params f.variadic f.body
-is_replacement (BuiltIn built_in) = false
+is_replacement (BuiltIn b) = false
 
 -- an identifier that a macro may have as its name
 abbrev pub is_name : Tok → Bool
