@@ -89,6 +89,13 @@ impl<'a> Cursor<'a> {
         self.place
     }
 
+    /// The whole text as it is written.
+    pub fn text(&self) -> &'a [u8]
+        ensures { result.now ≡ text_of self.now }
+    {
+        self.text
+    }
+
     /// Passes the next byte.
     #[tactic(auto, unfolding(crate::specs::Cursor::rest))]
     pub fn advance(&mut self)

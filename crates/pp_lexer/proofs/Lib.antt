@@ -3,3 +3,13 @@ pub mod TokenLemmas
 pub mod RunLemmas
 pub mod LexemeLemmas
 pub mod LinesLemmas
+pub mod CommentLemmas
+pub mod ClassLemmas
+pub mod RowLemmas
+pub mod OpeningLemmas
+pub mod ChoiceLemmas
+pub mod PlaceLemmas
+pub mod QuoteLemmas
+pub mod HeaderLemmas
+pub mod MarkLemmas
+pub mod PassedLemmas

@@ -1,15 +1,16 @@
 -- How what the lexer's functions return stands to the definitions.
-use Rattle.std.specs.Prelude.{◌≡◌, ℕ, Bool, ◌⊎◌, true, false, slice_index, ◌&&◌, ◌||◌, ◌==◌, List, [], ◌∷◌, Option, Some, None}
+use lib.Pointwise.{pointwise}
+use Rattle.std.specs.Prelude.{◌≡◌, ◌≢◌, nat_eq, if◌then◌else◌, ◌-◌, take, drop, length, ℕ, Bool, ◌⊎◌, true, false, slice_index, ◌&&◌, ◌||◌, ◌==◌, List, [], ◌∷◌, Option, Some, None}
 use Rattle.std.specs.Char.{is_ascii_digit}
 use Rattle.scan_model.specs.declared.token.Kind.{Kind}
 use Rattle.scan_model.specs.declared.token.Tok.{Tok}
-use Rattle.scan_model.specs.Spelling.{is_continue, is_blank}
+use Rattle.scan_model.specs.Spelling.{is_continue, is_blank, is_one_of, punctuators, longest}
 use Rattle.pp_lexer.specs.declared.runs.Run.{Run}
 use Rattle.pp_lexer.specs.declared.runs.Run.TheVariants.{Word, Number}
 use Rattle.pp_lexer.specs.declared.spellings.Dot.{Dot}
 use Rattle.pp_lexer.specs.declared.spellings.Dot.TheVariants.{BeforeDigit, Three, One}
 use Rattle.scan_model.specs.Spliced.{Spot}
-use Rattle.scan_model.specs.Tokens.{Lexeme, bytes, after_blanks, lexeme, next_token}
+use Rattle.scan_model.specs.Tokens.{Lexeme, bytes, after_blanks, is_lone_less, lexeme, next_token}
 use Rattle.scan_model.specs.Lines.{tok}
 
 -- the token after `before` where the spots stand, and what is left after it
@@ -57,3 +58,22 @@ is_nil (t ∷ ts) = false
 abbrev pub line_here : List Tok → ℕ → ℕ
 line_here [] line = line
 line_here (t ∷ ts) line = t.line
+
+-- `are`, with the spellings as bytes
+abbrev pub are_bytes : List (List ℕ) → List Tok → Bool
+are_bytes [] [] = true
+are_bytes [] (t ∷ ts) = false
+are_bytes (word ∷ words) [] = false
+are_bytes (word ∷ words) (t ∷ ts) = pointwise nat_eq word t.text && are_bytes words ts
+
+-- how many bytes the punctuator takes that begins the line, or 0
+abbrev pub mark_len : List ℕ → ℕ
+mark_len s = if is_lone_less s then 1 else longest (is_one_of punctuators) s
+
+-- what shows from one cursor to the other
+abbrev pub passed : List Spot → List Spot → List Spot
+passed before after = take (length before - length after) before
+
+-- the second cursor stands at a byte further on, or at the same one
+abbrev pub IsAhead : List Spot → List Spot → Type 0
+IsAhead before after = (after ≢ []) × (after ≡ drop (length before - length after) before)

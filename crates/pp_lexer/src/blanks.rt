@@ -1,8 +1,7 @@
-ghost use Rattle.std.specs.Prelude.{◌≡◌, length, nat_lt};
+ghost use Rattle.std.specs.Prelude.{◌≡◌, [], ◌∷◌, Some, None, IsFalse, length, nat_lt, if◌then◌else◌};
 ghost use Rattle.line_splice.specs.Cursor.{text_of, rest};
 ghost use Rattle.scan_model.specs.Spelling.{is_blank};
-ghost use Rattle.scan_model.specs.Tokens.{bytes, first_is_blank, after_blanks};
-ghost use Rattle.pp_lexer.specs.Plain.{IsPlain};
+ghost use Rattle.scan_model.specs.Tokens.{begins, first_is_blank, from_newline, after_comment, next_blank, after_blanks};
 
 use line_splice::Cursor;
 
@@ -21,17 +20,88 @@ fn first_is_blank(at: &Cursor<'_>) -> bool
     }
 }
 
-// Passes the white space, other than newlines, that stands here: a plain text has no comments. The answer says whether
-// there was any.
+fn is_next(at: &Cursor<'_>, byte: u8) -> bool
+    ensures { result ≡ begins (byte ∷ []) (rest at.now) }
+{
+    match at.peek() {
+        Some(next) => next == byte,
+        None => false,
+    }
+}
+
+// Whether these two bytes come next.
+fn begins(at: &Cursor<'_>, first: u8, second: u8) -> bool
+    ensures { result ≡ begins (first ∷ second ∷ []) (rest at.now) }
+{
+    let mut next = *at;
+    match next.peek() {
+        Some(byte) => {
+            next.advance();
+            (byte == first) & is_next(&next, second)
+        }
+        None => false,
+    }
+}
+
+// Goes on to the next newline that shows, which a splice is not.
+fn pass_line(at: &mut Cursor<'_>)
+    ensures text { text_of at.new ≡ text_of at.old }
+    ensures rest { rest at.new ≡ from_newline (rest at.old) }
+{
+    while let Some(byte) = at.peek() {
+        if byte == b'\n' {
+            break;
+        }
+        at.advance();
+    }
+}
+
+// Passes the next `*/` and what stands before it, or all that is left.
+fn pass_comment(at: &mut Cursor<'_>)
+    ensures text { text_of at.new ≡ text_of at.old }
+    ensures rest { rest at.new ≡ after_comment (rest at.old) }
+{
+    'comment: while !at.is_end() {
+        if begins(at, b'*', b'/') {
+            at.advance();
+            at.advance();
+            break;
+        }
+        at.advance();
+    }
+}
+
+// Passes a blank or a comment. The answer says whether one stood here.
+fn pass_blank(at: &mut Cursor<'_>) -> bool
+    ensures text { text_of at.new ≡ text_of at.old }
+    ensures blank { (if result then Some (rest at.new) else None) ≡ next_blank (rest at.old) }
+    ensures none { IsFalse result → rest at.new ≡ rest at.old }
+{
+    if first_is_blank(at) {
+        at.advance();
+        true
+    } else if begins(at, b'/', b'/') {
+        pass_line(at);
+        true
+    } else if begins(at, b'/', b'*') {
+        at.advance();
+        at.advance();
+        pass_comment(at);
+        true
+    } else {
+        false
+    }
+}
+
+// Passes the white space, other than newlines, and the comments that stand here ([lex.comment]). The answer says
+// whether there were any.
 pub fn pass_blanks(at: &mut Cursor<'_>) -> bool
-    requires { IsPlain (bytes (rest at.old)) }
     ensures text { text_of at.new ≡ text_of at.old }
     ensures rest { rest at.new ≡ after_blanks (rest at.old) }
     ensures passed { result ≡ nat_lt (length (after_blanks (rest at.old))) (length (rest at.old)) }
 {
     let mut passed = false;
-    'blanks: while first_is_blank(at) {
-        at.advance();
+    'blanks: while pass_blank(at) {
         passed = true;
     }
     passed

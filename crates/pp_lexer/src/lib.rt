@@ -3,7 +3,10 @@
 #![tactic(auto)]
 
 mod blanks;
+mod header_names;
 mod logical_lines;
+mod marks;
+mod passed;
 mod plain;
 mod runs;
 mod spellings;

@@ -1,0 +1,5 @@
+pub mod Character
+pub mod Fronts
+pub mod Names
+pub mod Numbers
+pub mod Passes

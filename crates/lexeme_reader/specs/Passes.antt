@@ -1,0 +1,13 @@
+-- What a cursor passes, as characters.
+use Rattle.std.specs.Prelude.{◌≡◌, ℕ, true, not, ◌==◌, List, ◌++◌, drop, length}
+use Rattle.std.specs.List.{list_all}
+use Rattle.std.specs.Str.{encode_utf8_all, all_scalars}
+use Rattle.scan_model.specs.Spliced.{Spot}
+use Rattle.scan_model.specs.Tokens.{bytes}
+
+-- these characters, none of which is a newline
+pub record Passes (cs : List ℕ) (old new : List Spot) : Type 0 where
+  pub scalars : all_scalars cs ≡ true
+  pub one_line : list_all (λ c. not (c == 10)) cs ≡ true
+  pub spelt : bytes old ≡ encode_utf8_all cs ++ bytes new
+  pub left : new ≡ drop (length (encode_utf8_all cs)) old

@@ -1,0 +1,63 @@
+ghost use Rattle.std.specs.Prelude.{◌≡◌, ◌≤◌, length, take, slice_index};
+ghost use Rattle.line_splice.specs.Cursor.{rest};
+ghost use Rattle.lexeme_reader.specs.Fronts.{line};
+ghost use Rattle.scan_model.specs.Tokens.{is_lone_less};
+ghost use Rattle.pp_lexer.specs.Reads.{mark_len};
+
+use line_splice::Cursor;
+use word_table::punctuator;
+
+// The bytes that come next on the logical line, at most four: no punctuator is longer.
+#[derive(Clone, Copy)]
+struct Window {
+    bytes: [u8; 4],
+    len: usize,
+}
+
+fn next_bytes(at: &Cursor<'_>) -> Window
+    ensures small { result.len ≤ 4 }
+    ensures within { result.len ≤ length (rest at.now) }
+    ensures bytes { take result.len result.bytes ≡ take 4 (line (rest at.now)) }
+{
+    let mut next = *at;
+    let mut bytes = [0u8; 4];
+    'window: for len in 0..4usize {
+        let byte = next.peek().unwrap_or(b'\n');
+        if byte == b'\n' {
+            return Window { bytes, len };
+        }
+        bytes[len] = byte;
+        next.advance();
+    }
+    Window { bytes, len: 4 }
+}
+
+fn fourth_or_zero(shown: &[u8]) -> u8
+    ensures { result ≡ slice_index shown.now 3 }
+{
+    if shown.len() > 3 { shown[3] } else { 0 }
+}
+
+// Whether `<` stands here alone before `::` ([lex.pptoken]).
+fn is_lone_less(shown: &[u8]) -> bool
+    ensures { result ≡ is_lone_less shown.now }
+{
+    let fourth = fourth_or_zero(shown);
+    shown.starts_with(b"<::") & !((fourth == b':') | (fourth == b'>'))
+}
+
+// How many bytes the punctuator takes that stands here, or 0 where none does. Alternative words are left to the names.
+pub fn mark_len(at: &Cursor<'_>) -> usize
+    ensures len { result ≡ mark_len (line (rest at.now)) }
+    ensures within { result ≤ length (rest at.now) }
+{
+    let window = next_bytes(at);
+    let shown = &window.bytes[..window.len];
+    if is_lone_less(shown) {
+        return 1;
+    }
+    match punctuator(shown) {
+        Some((_, len)) => len,
+        None => 0,
+    }
+}
