@@ -35,10 +35,15 @@ kept_from-start text = refl
 
 -- ## A line that is dropped
 
-dropped : (before : List Tok) (last : ℕ) → begins_directive before ≡ false → filter is_directive (closed before last) ≡ []
+pub dropped : (before : List Tok) (last : ℕ) → begins_directive before ≡ false → filter is_directive (closed before last) ≡ []
 unfolding is_directive
 dropped [] last h = refl
 dropped (t ∷ ts) last h = rw h refl
+
+pub kept_closed : (before : List Tok) (last : ℕ) → begins_directive before ≡ true → filter is_directive (closed before last) ≡ closed before last
+unfolding is_directive
+kept_closed [] last h = refl
+kept_closed (t ∷ ts) last h = rw h refl
 
 pub text_token : (text : List ℕ) (before : List Tok) (s : List Spot) (l : Lexeme) → is_text before ≡ true → next_token text before s ≡ Some l
     → (b : List Tok) × (is_text b ≡ true) × (kept_from text before s ≡ kept_from text b l.left)

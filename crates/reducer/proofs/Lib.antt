@@ -5,3 +5,5 @@ pub mod LeftLemmas
 pub mod OrderLemmas
 pub mod TokenLemmas
 pub mod KeptLemmas
+pub mod PassLemmas
+pub mod TurnLemmas

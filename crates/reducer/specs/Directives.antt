@@ -1,5 +1,5 @@
 -- What the first tokens of a line tell of it ([cpp.pre]).
-use Rattle.std.specs.Prelude.{ℕ, Bool, true, false, not, ◌&&◌, List, [], ◌∷◌}
+use Rattle.std.specs.Prelude.{◌≡◌, ℕ, Bool, true, false, not, ◌&&◌, List, [], ◌∷◌}
 use Rattle.std.specs.List.{filter}
 use Rattle.scan_model.specs.declared.token.Tok.{Tok}
 use Rattle.scan_model.specs.declared.token.Line.{Line}
@@ -21,3 +21,7 @@ is_text ts = not (begins_directive ts) && not (may_begin ts)
 -- the lines of what is left that are directives, after the tokens `before` of the first one
 abbrev pub kept_from : List ℕ → List Tok → List Spot → List Line
 kept_from text before spots = filter is_directive (lines_from text before spots)
+
+-- The line of which `s` is left is passed, and `left` follows it: after tokens that make no directive, nothing of it is kept.
+abbrev pub IsPassed : List ℕ → List Spot → List Spot → Type 0
+IsPassed text s left = (before : List Tok) → is_text before ≡ true → kept_from text before s ≡ kept_from text [] left

@@ -2,3 +2,4 @@ pub mod ReducedLines
 pub mod Answers
 pub mod Views
 pub mod Directives
+pub mod Stub

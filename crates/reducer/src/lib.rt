@@ -2,7 +2,11 @@
 #![tactic(auto)]
 
 mod answer;
+mod directive_lines;
+mod reduction;
 mod reduced;
+mod stub;
 
 pub use answer::Answer;
+pub use reduction::reduce;
 pub use reduced::{LineHead, Reduced, TokView};

@@ -50,6 +50,13 @@ pub struct TokView<'a> {
 impl Reduced {
     ghost use Rattle.reducer.specs.Views.{head, view};
 
+    pub(crate) fn of_lines(lines: Vec<Line>) -> Reduced
+        requires { AreReduced lines.items }
+        ensures { result ≡ lines.items }
+    {
+        Reduced { lines }
+    }
+
     /// The number of lines.
     pub fn len(&self) -> u32
         ensures lines { result ≡ length self.now }
