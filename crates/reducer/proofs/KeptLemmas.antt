@@ -55,7 +55,7 @@ text_newline text before s h e =
 
 -- ## Blanks before a line
 
-after_blanks-twice : (s : List Spot) → after_blanks (after_blanks s) ≡ after_blanks s
+pub after_blanks-twice : (s : List Spot) → after_blanks (after_blanks s) ≡ after_blanks s
 after_blanks-twice s = after_blanks-none (after_blanks s) (after_blanks-stops s)
 
 same_token : (text : List ℕ) (before : List Tok) (s : List Spot) → next_token text before (after_blanks s) ≡ next_token text before s

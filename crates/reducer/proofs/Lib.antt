@@ -7,3 +7,5 @@ pub mod TokenLemmas
 pub mod KeptLemmas
 pub mod PassLemmas
 pub mod TurnLemmas
+pub mod WordLemmas
+pub mod FrontLemmas

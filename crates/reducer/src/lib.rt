@@ -3,6 +3,7 @@
 
 mod answer;
 mod directive_lines;
+mod fronts;
 mod reduction;
 mod reduced;
 mod stub;

@@ -6,6 +6,7 @@ ghost use Rattle.reducer.specs.Directives.{IsPassed, kept_from};
 
 use crate::Reduced;
 use crate::directive_lines::{begins_directive, is_text};
+use crate::fronts::begins_text;
 use crate::stub::{pass_blanks, pass_token, token};
 use line_splice::Cursor;
 use scan_model::{Items, Line, NoMemory, Tok};
@@ -108,6 +109,28 @@ fn read_line(
     Ok(())
 }
 
+// Reads or passes the line that begins here, and adds it where it is a directive. Where its front tells that it is none,
+// no token of it is built.
+fn reduce_line(
+    alloc: Global,
+    text: &[u8],
+    at: &mut Cursor<'_>,
+    lines: &mut Vec<Line>,
+) -> Result<(), NoMemory>
+    requires { text_of at.old ≡ text.now }
+    ensures text { text_of at.new ≡ text_of at.old }
+    ensures kept { OnOk result (lines.new.items ++ kept_from text.now [] (rest at.new) ≡ lines.old.items ++ kept_from text.now [] (rest at.old)) }
+    ensures less { OnOk result (length (rest at.new) ≤ length (rest at.old) - 1) }
+{
+    pass_blanks(at);
+    if begins_text(at) {
+        pass_token(at);
+        pass_line(at);
+        return Ok(());
+    }
+    read_line(alloc, text, at, lines)
+}
+
 /// The lines of the text that are directives ([cpp.pre]). `Err` is want of memory. A text has at most 32 MiB.
 ///
 /// No tokens are built for the other lines, but the first few where those must tell.
@@ -118,7 +141,7 @@ pub fn reduce(alloc: Global, text: &[u8]) -> Result<Reduced, NoMemory>
     let mut at = Cursor::new(text);
     let mut lines = Vec::new(alloc);
     'lines: while !at.is_end() {
-        read_line(alloc, text, &mut at, &mut lines)?;
+        reduce_line(alloc, text, &mut at, &mut lines)?;
     }
     Ok(Reduced::of_lines(lines))
 }
