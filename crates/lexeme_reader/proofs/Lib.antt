@@ -6,3 +6,10 @@ pub mod FrontLemmas
 pub mod PassLemmas
 pub mod NameLemmas
 pub mod NumberLemmas
+pub mod AlongLemmas
+pub mod QuotedLemmas
+pub mod HeaderLemmas
+pub mod RawLemmas
+pub mod DelimiterLemmas
+pub mod PlaceLemmas
+pub mod RawStringLemmas

@@ -49,3 +49,12 @@ line_begins t xs ys e = let more = after_line t in (ys ++ more.0, more.1 ∙ ap 
 
 pub length-rest_of_line : (t : List ℕ) → length (rest_of_line t) ≤ length t
 length-rest_of_line t = let more = after_line t in let z : length t ≡ length (rest_of_line t ++ more.0) = ap length more.1 in omega (arith, z, length-append (rest_of_line t) more.0)
+
+pub rest_of_line-drop : (t : List ℕ) (n : ℕ) → n ≤ length (rest_of_line t) → rest_of_line (drop n t) ≡ drop n (rest_of_line t)
+rest_of_line-drop t zero h = refl
+rest_of_line-drop [] (suc n) h = rest_of_line-nil ∙ ap (drop (suc n)) (sym rest_of_line-nil)
+rest_of_line-drop (c ∷ t) (suc n) h = elim (cases_Bool (c == 10)) [
+  | inl e ↦ absurd (let z : length (rest_of_line (c ∷ t)) ≡ 0 = ap length (rest_of_line-newline c t e) in omega arith)
+  | inr e ↦ let z : length (rest_of_line (c ∷ t)) ≡ suc (length (rest_of_line t)) = ap length (rest_of_line-cons c t e) in
+      rest_of_line-drop t n (omega arith) ∙ ap (drop (suc n)) (sym (rest_of_line-cons c t e))
+]

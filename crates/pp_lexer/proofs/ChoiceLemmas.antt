@@ -83,7 +83,7 @@ no_name : is_name [] ≡ true → ⊥
 unfolding reading
 no_name h = let z : false ≡ true = h in cc
 
-front_name : (s : List ℕ) (m : ℕ) → is_name (take m s) ≡ true → 0 < m → begins_word (first s) ≡ true
+pub front_name : (s : List ℕ) (m : ℕ) → is_name (take m s) ≡ true → 0 < m → begins_word (first s) ≡ true
 front_name s zero h some = absurd (omega arith)
 front_name [] (suc m) h some = absurd (no_name h)
 front_name (c ∷ s) (suc m) h some = name_first c (take m s) h
@@ -131,7 +131,7 @@ index_longer s k m i le some =
     let within : i < k = omega (arith, there, length-take k s) in
     index-take s m i (omega arith) ∙ sym (index-take s k i within)
 
-digits_longer : (s : List ℕ) (k m : ℕ) → k ≤ m → begins_digits (take k s) ≡ true → begins_digits (take m s) ≡ true
+pub digits_longer : (s : List ℕ) (k m : ℕ) → k ≤ m → begins_digits (take k s) ≡ true → begins_digits (take m s) ≡ true
 digits_longer s k m le h =
     let u = take k s in
     elim (or_cases (is_ascii_digit (first u)) (first u == 46 && is_ascii_digit (slice_index u 1)) h) [

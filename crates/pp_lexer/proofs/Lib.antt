@@ -1,7 +1,5 @@
 pub mod PlainLemmas
 pub mod TokenLemmas
-pub mod RunLemmas
-pub mod LexemeLemmas
 pub mod LinesLemmas
 pub mod CommentLemmas
 pub mod ClassLemmas
@@ -13,3 +11,7 @@ pub mod QuoteLemmas
 pub mod HeaderLemmas
 pub mod MarkLemmas
 pub mod PassedLemmas
+pub mod UnquotedLemmas
+pub mod RuleLemmas
+pub mod RawLemmas
+pub mod FoundLemmas

@@ -13,27 +13,6 @@ use Rattle.scan_model.proofs.LineLemmas.{next_takes, lines_from-token, lines_fro
 use Rattle.pp_lexer.specs.Plain.{is_plain, IsPlain}
 use Rattle.pp_lexer.specs.Reads.{GivesToken}
 
-shown_plain : (last before place line : ℕ) (t : List ℕ) → IsPlain t → IsPlain (bytes (shown last before place line t))
-unfolding shown
-shown_plain last before place line [] h = cond_both (last == 10) [] (record { byte = 10; place = place; line = line } ∷ []) (λ s. IsPlain (bytes s)) (λ e. refl) (λ e. refl)
-shown_plain last before place line (c ∷ t) h =
-    let both = and_parts (is_plain c) (list_all is_plain t) h in
-    let byte = cond (at_newline (c ∷ t)) 10 c in
-    let below = cond (c == 10) (line + 1) line in
-    let plain : is_plain byte ≡ true = cond_both (at_newline (c ∷ t)) 10 c (λ b. is_plain b ≡ true) (λ e. refl) (λ e. both.0) in
-    let next : IsPlain (bytes (shown byte c (place + 1) below t)) = shown_plain byte c (place + 1) below t both.1 in
-    cond_both (is_hidden before c t) (shown last c (place + 1) below t) (record { byte = byte; place = place; line = line } ∷ shown byte c (place + 1) below t)
-    (λ s. IsPlain (bytes s)) (λ e. shown_plain last c (place + 1) below t both.1) (λ e. rw plain next)
-
-plain_drop_bytes : (t : List ℕ) (n : ℕ) → IsPlain t → IsPlain (drop n t)
-plain_drop_bytes t zero h = h
-plain_drop_bytes [] (suc n) h = h
-plain_drop_bytes (c ∷ t) (suc n) h = plain_drop_bytes t n (and_parts (is_plain c) (list_all is_plain t) h).1
-
-pub spliced_plain : (t : List ℕ) → IsPlain t → IsPlain (bytes (spliced t))
-unfolding spliced
-spliced_plain t h = shown_plain 0 0 (mark_len t) 1 (drop (mark_len t) t) (plain_drop_bytes t (mark_len t) h)
-
 pub lines_init : (text : List ℕ) (out : List Line) (toks : List Tok) (s : List Spot) → out ≡ [] → toks ≡ [] → s ≡ spliced text → out ++ lines_from text toks s ≡ lines text
 unfolding lines
 lines_init text out toks s no_lines no_toks start =

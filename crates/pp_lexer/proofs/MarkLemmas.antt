@@ -1,7 +1,7 @@
 -- The first bytes of a line, read into a window of four.
 use Rattle.std.proofs.Common.{◌≡◌, ℕ, zero, suc, ◌+◌, ◌<◌, ◌≤◌, Bool, true, false, cond, ◌==◌, ◌&&◌, List, [], ◌∷◌, refl, ap, sym, ◌∙◌, take, drop, length, length-drop, slice_index, slice_set, arith, Some, None}
 use Rattle.std.specs.Prelude.{unwrap_or}
-use Rattle.std.proofs.lemmas.Bool.{eq-eqb, ne_eqb, true≢false}
+use Rattle.std.proofs.lemmas.Bool.{eq-eqb, ne_eqb, true≢false, cond_both}
 use Rattle.std.proofs.lemmas.List.{drop-drop}
 use Rattle.scan_model.specs.Spliced.{Spot, byte_at}
 use Rattle.scan_model.specs.Spelling.{is_one_of, punctuators, longest}
@@ -84,3 +84,6 @@ mark_row s w n e h len =
     let same : n ≡ longest (is_one_of punctuators) s = len ∙ ap (λ w. len_of (longest_row w tables.punctuators)) e ∙ sym (longest-punctuator s) in
     let le = longest_le (is_one_of punctuators) s in
     (rw here same, omega arith)
+
+pub mark_le : (s : List ℕ) → mark_len s ≤ length s
+mark_le s = cond_both (is_lone_less s) 1 (longest (is_one_of punctuators) s) (λ n. n ≤ length s) (λ e. lone_some s e) (λ e. longest_le (is_one_of punctuators) s)

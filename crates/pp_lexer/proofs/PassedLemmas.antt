@@ -1,8 +1,12 @@
 -- What shows between two cursors, byte by byte.
-use Rattle.std.proofs.Common.{◌≡◌, ◌≢◌, ℕ, zero, suc, ◌+◌, ◌-◌, ◌<◌, ◌≤◌, Bool, true, false, ◌==◌, nat_le, List, [], ◌∷◌, ◌++◌, refl, ap, sym, ◌∙◌, subst, inl, inr, take, drop, length, length-drop, length-take, slice_set, arith}
+use Rattle.std.proofs.Common.{◌≡◌, ◌≢◌, ℕ, zero, suc, ◌+◌, ◌-◌, ◌<◌, ◌≤◌, Bool, true, false, ◌==◌, nat_le, List, [], ◌∷◌, ◌++◌, refl, ap, sym, ◌∙◌, subst, inl, inr, take, drop, length, length-drop, length-take, slice_set, arith, cond, ◌||◌, Some, is_some}
 use Rattle.std.proofs.lemmas.Bool.{cases_lt, leb-true, false_from_ne_true}
 use Rattle.std.proofs.lemmas.List.{drop-drop, append_assoc}
 use Rattle.std.specs.Prelude.{unwrap_or}
+use Rattle.std.specs.Option.{option_map}
+use Rattle.std.specs.List.{find, list_any}
+use Rattle.word_table.specs.Rows.{value_of, has_word}
+use Rattle.word_table.specs.Tables.{operator_words}
 use Rattle.line_splice.specs.declared.cursor.Cursor.{Cursor}
 use Rattle.line_splice.specs.Cursor.{rest}
 use Rattle.scan_model.specs.Spliced.{Spot, byte_at, place_at}
@@ -38,7 +42,7 @@ stops at t u text ahead along le higher = elim (cases_lt (length t) (length u)) 
       let j = length s - length t in
       let t_len : length t ≡ length (drop j s) = ap length ahead.1 in
       let u_len : length u ≡ length (drop i s) = ap length along in
-      let some : 0 < length t = not_empty t ahead.0 in
+      let some : 0 < length t = not_empty t s ahead.0 (omega (arith, lt, u_len, length-drop i s)) in
       let lower : place_at text (drop i s) < place_at text (drop j s) =
           place_later at i j text (omega (arith, t_len, u_len, length-drop i s, length-drop j s)) (omega (arith, t_len, some, length-drop j s)) in
       let here : place_at text u ≡ place_at text (drop i s) = ap (place_at text) along in
@@ -48,9 +52,9 @@ stops at t u text ahead along le higher = elim (cases_lt (length t) (length u)) 
       let len : length u ≡ length t = omega arith in
       along ∙ ap (λ k. drop (length (rest at) - k) (rest at)) len ∙ sym ahead.1
 ] where
-  not_empty : (t : List Spot) → t ≢ [] → 0 < length t
-  not_empty [] h = absurd (h refl)
-  not_empty (x ∷ t) h = omega arith
+  not_empty : (t s : List Spot) → (t ≡ [] → s ≡ []) → 0 < length s → 0 < length t
+  not_empty [] s h some = let z : length s ≡ 0 = ap length (h refl) in absurd (omega (arith, z, some))
+  not_empty (x ∷ t) s h some = omega arith
 
 -- one byte further
 pub along_more : (s u v : List Spot) → IsAlong s u → v ≡ drop 1 u → 0 < length u → (IsAlong s v) × (length s - length v ≡ (length s - length u) + 1)
@@ -70,6 +74,14 @@ passed_more s u v front whole more along next some same =
     ∙ ap (λ b. front ++ b) (sym (bytes-take_more s i) ∙ ap (λ k. bytes (take k s)) (sym (along_more s u v along next some).1))
 
 -- ## Alternative words
+
+found_any : {A B : Type 0} (f : A → B) (p : A → Bool) (xs : List A) → is_some (option_map f (find p xs)) ≡ list_any p xs
+found_any f p [] = refl
+found_any f p (x ∷ xs) = elim (p x) as (λ b. is_some (option_map f (cond b (Some x) (find p xs))) ≡ (b || list_any p xs)) [ true ↦ refl | false ↦ found_any f p xs ]
+
+pub alternative_found : (s : List ℕ) → is_some (option_map value_of (find (has_word s) operator_words)) ≡ is_alternative s
+unfolding is_alternative
+alternative_found s = found_any value_of (has_word s) operator_words
 
 -- no alternative word has more than six bytes
 pub long_word : (b : List ℕ) → 7 ≤ length b → is_alternative b ≡ false

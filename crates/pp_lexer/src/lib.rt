@@ -1,19 +1,21 @@
-//! The preprocessing tokens of a text by logical lines, for now of plain texts: those of letters, digits, `_`, blanks,
-//! newlines and the punctuators `; . ( ) { }`.
+//! The preprocessing tokens of a text, one by one and by logical lines ([lex.pptoken]).
 #![tactic(auto)]
 
 mod blanks;
 mod header_names;
+mod lexeme;
 mod logical_lines;
 mod marks;
 mod passed;
 mod plain;
-mod runs;
-mod spellings;
+mod spelled;
+
 mod tokens;
+mod unquoted;
 
 pub use logical_lines::lines;
 pub use plain::first_not_plain;
+pub use tokens::token;
 
 #[cfg(test)]
 mod tests;

@@ -1,25 +1,23 @@
 ghost use Rattle.std.specs.Prelude.{◌≡◌, ◌≤◌, ◌++◌, [], ◌∷◌, length, drop, IfOk, OnOk};
 ghost use Rattle.line_splice.specs.Cursor.{text_of, rest};
 ghost use Rattle.scan_model.specs.Lines.{lines, closed};
-ghost use Rattle.pp_lexer.specs.Plain.{IsPlain};
 
 use crate::tokens::token;
 use line_splice::Cursor;
 use scan_model::{Items, Line, NoMemory, Tok};
 use std::alloc::Global;
 
-/// The logical lines of a plain text that have tokens ([lex.phases], [lex.pptoken]). `Err` is want of memory. A text
-/// has at most 32 MiB, and `first_not_plain` tells whether it is plain.
+/// The logical lines of a text that have tokens ([lex.phases], [lex.pptoken]). `Err` is want of memory. A text has at
+/// most 32 MiB.
 pub fn lines(alloc: Global, text: &[u8]) -> Result<Items<Line>, NoMemory>
-    requires small { length text.now ≤ 33554432 }
-    requires plain { IsPlain text.now }
+    requires { length text.now ≤ 33554432 }
     ensures { IfOk result (λ ls. ls ≡ lines text.now) }
 {
     let mut at = Cursor::new(text);
     let mut out = Items::new(alloc);
     let mut toks = Items::new(alloc);
     'lines: while !at.is_end() {
-        match token(alloc, &mut at, toks.as_slice())? {
+        match token(alloc, text, &mut at, toks.as_slice())? {
             Some(tok) => push(&mut toks, tok)?,
             None => {
                 end_line(&mut out, toks, at.line())?;

@@ -1,4 +1,4 @@
-ghost use Rattle.std.specs.Prelude.{◌≡◌, ◌≢◌, ◌++◌, [], ◌∷◌, drop, take, OnOk};
+ghost use Rattle.std.specs.Prelude.{◌≡◌, ◌≢◌, ◌≤◌, ◌++◌, [], length, drop, take, OnOk};
 ghost use Rattle.line_splice.specs.Cursor.{text_of, rest};
 ghost use Rattle.scan_model.specs.Spelling.{is_alternative};
 ghost use Rattle.scan_model.specs.Tokens.{bytes};
@@ -48,6 +48,18 @@ fn take_byte(at: &mut Cursor<'_>, text: &mut Vec<u8>) -> Result<(), NoMemory>
         Ok(()) => Ok(()),
         Err(_) => Err(NoMemory),
     }
+}
+
+// Adds the next bytes that show.
+pub fn push_first(text: &mut Vec<u8>, from: &Cursor<'_>, count: usize) -> Result<(), NoMemory>
+    requires { count ≤ length (rest from.now) }
+    ensures { OnOk result (text.new.items ≡ text.old.items ++ bytes (take count (rest from.now))) }
+{
+    let mut next = *from;
+    'bytes: for _ in 0..count {
+        take_byte(&mut next, text)?;
+    }
+    Ok(())
 }
 
 // Adds what shows between the two cursors.

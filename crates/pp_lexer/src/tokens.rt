@@ -1,11 +1,11 @@
-ghost use Rattle.std.specs.Prelude.{◌≡◌, IfOk, OnOk};
+ghost use Rattle.std.specs.Prelude.{◌≡◌, ◌<◌, nat_lt, length, IfOk, OnErr};
 ghost use Rattle.line_splice.specs.Cursor.{text_of, rest};
-ghost use Rattle.scan_model.specs.Tokens.{bytes};
-ghost use Rattle.pp_lexer.specs.Plain.{IsPlain};
+ghost use Rattle.lexeme_reader.specs.Fronts.{line};
 ghost use Rattle.pp_lexer.specs.Reads.{GivesToken, is_nil, line_here};
 
 use crate::blanks::pass_blanks;
-use crate::spellings::spelling;
+use crate::lexeme::pass_lexeme;
+use crate::spelled::spelled;
 use line_splice::Cursor;
 use scan_model::{Bytes, NoMemory, Tok};
 use std::alloc::Global;
@@ -29,28 +29,47 @@ fn line_here(before: &[Tok], line: u32) -> u32
     }
 }
 
-// The token that stands here after `before`, or none where a newline or the end comes first.
-pub fn token(alloc: Global, at: &mut Cursor<'_>, before: &[Tok]) -> Result<Option<Tok>, NoMemory>
-    requires { IsPlain (bytes (rest at.old)) }
-    ensures text { text_of at.new ≡ text_of at.old }
-    ensures plain { OnOk result (IsPlain (bytes (rest at.new))) }
-    ensures token { IfOk result (λ t. GivesToken (text_of at.old) before.now (rest at.old) t (rest at.new)) }
+// Whether a byte other than a newline stands here.
+fn is_on_line(at: &Cursor<'_>) -> bool
+    ensures { result ≡ nat_lt 0 (length (line (rest at.now))) }
 {
-    let space = pass_blanks(at) | is_nil(before);
-    let line = line_here(before, at.line());
     match at.peek() {
-        Some(byte) => {
-            if byte == b'\n' {
-                return Ok(None);
-            }
-            let (kind, text) = spelling(alloc, at, byte)?;
-            Ok(Some(Tok {
-                kind,
-                text: Bytes::of_vec(text),
-                space,
-                line,
-            }))
-        }
-        None => Ok(None),
+        Some(byte) => byte != b'\n',
+        None => false,
     }
+}
+
+/// The next token after the tokens `before` of its line, with its line and whether space stands before it
+/// ([lex.pptoken]). White space and comments are passed first. `at` is a cursor over the text, directly after the last of
+/// those tokens, or at the start of a line where there are none; it then stands directly after the token. None exactly
+/// where a newline outside comments, or the end, comes first; `at` then stands there. `Err` is want of memory, and leaves
+/// `at` as it was.
+pub fn token(
+    alloc: Global,
+    text: &[u8],
+    at: &mut Cursor<'_>,
+    before: &[Tok],
+) -> Result<Option<Tok>, NoMemory>
+    requires { text_of at.old ≡ text.now }
+    ensures text { text_of at.new ≡ text_of at.old }
+    ensures token { IfOk result (λ t. GivesToken text.now before.now (rest at.old) t (rest at.new)) }
+    ensures err { OnErr result (rest at.new ≡ rest at.old) }
+{
+    let mut next = *at;
+    let space = pass_blanks(&mut next) | is_nil(before);
+    if !is_on_line(&next) {
+        *at = next;
+        return Ok(None);
+    }
+    let line = line_here(before, next.line());
+    let from = next;
+    let found = pass_lexeme(&mut next, before);
+    let spelling = spelled(alloc, text, &from, found, &next)?;
+    *at = next;
+    Ok(Some(Tok {
+        kind: found.kind,
+        text: Bytes::of_vec(spelling),
+        space,
+        line,
+    }))
 }

@@ -1,5 +1,5 @@
 use Rattle.std.proofs.Common.{◌∙◌, ap, is_some}
-use Rattle.pp_lexer.proofs.RunLemmas.{alternative_found}
+use Rattle.pp_lexer.proofs.PassedLemmas.{alternative_found}
 use Rattle.pp_lexer.proofs.passed.is_alternative.Goals as goal
 
 pub returns : goal.returns

@@ -1,0 +1,19 @@
+use Rattle.std.proofs.Common.{◌≡◌, ◌≤◌, ◌+◌, ◌-◌, ◌∙◌, ap, sym, take, drop, length, length-drop, Some, arith, ℕ}
+use Rattle.std.proofs.lemmas.List.{drop-drop, take_rest}
+use Rattle.lexeme_reader.proofs.RawStringLemmas.{raw_after}
+use Rattle.lexeme_reader.proofs.raw.raw_end.Goals as goal
+
+pub returns-in-Some : goal.returns-in-Some
+returns-in-Some c = let t = c.args.text.now in let a = c.args.start in let n = c.args.len in
+    let d : (a + n) - a ≡ n = omega arith in
+    let rest = take_rest t (a + n + 1) in (
+      omega arith,
+      omega (arith, c.in-Some.ensures.0, ap length rest, length-drop (a + n + 1) t, length-drop a t, c.requires.delimiter.within),
+      raw_after t _ _ a n c.requires.delimiter (ap (λ k. take k (drop a t)) d) rest ∙ c.in-Some.ensures.1 ∙ ap (λ u. Some (drop c.in-Some.taken u)) rest
+          ∙ ap Some (drop-drop c.in-Some.taken (a + n + 1) t),
+    )
+
+pub returns-in-None : goal.returns-in-None
+returns-in-None c = let t = c.args.text.now in let a = c.args.start in let n = c.args.len in
+    let d : (a + n) - a ≡ n = omega arith in
+    raw_after t _ _ a n c.requires.delimiter (ap (λ k. take k (drop a t)) d) (take_rest t (a + n + 1)) ∙ c.in-None.ensures
