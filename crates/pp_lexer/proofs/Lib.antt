@@ -15,3 +15,4 @@ pub mod UnquotedLemmas
 pub mod RuleLemmas
 pub mod RawLemmas
 pub mod FoundLemmas
+pub mod PassingLemmas

@@ -7,13 +7,16 @@ mod lexeme;
 mod logical_lines;
 mod marks;
 mod passed;
+mod passing;
 mod plain;
 mod spelled;
 
 mod tokens;
 mod unquoted;
 
+pub use blanks::pass_blanks;
 pub use logical_lines::lines;
+pub use passing::pass_token;
 pub use plain::first_not_plain;
 pub use tokens::token;
 

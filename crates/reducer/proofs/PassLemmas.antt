@@ -8,7 +8,7 @@ use Rattle.scan_model.specs.Lines.{tok}
 use Rattle.scan_model.proofs.BlankLemmas.{length-after_blanks}
 use Rattle.scan_model.proofs.LineLemmas.{next_takes}
 use Rattle.reducer.specs.Directives.{is_text, kept_from, IsPassed, begins_text}
-use Rattle.reducer.specs.Stub.{PassesToken}
+use Rattle.pp_lexer.specs.Reads.{PassesToken}
 use Rattle.reducer.proofs.TextLemmas.{wants_header-text}
 use Rattle.reducer.proofs.KeptLemmas.{text_token, text_newline, kept_from-token, kept_from-blanks, after_blanks-twice}
 use Rattle.reducer.proofs.WordLemmas.{begins_text-tok, begins_text-some}

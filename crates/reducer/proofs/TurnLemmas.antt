@@ -9,7 +9,7 @@ use Rattle.scan_model.specs.Lines.{tok, closed, is_directive, kept}
 use Rattle.scan_model.proofs.LineLemmas.{next_takes}
 use Rattle.reducer.specs.ReducedLines.{AreReduced}
 use Rattle.reducer.specs.Directives.{is_text, kept_from, IsPassed}
-use Rattle.reducer.specs.Stub.{GivesToken}
+use Rattle.pp_lexer.specs.Reads.{GivesToken}
 use Rattle.reducer.proofs.KeptLemmas.{kept_from-token, kept_from-newline, kept_from-end, kept_from-start, reduced_kept}
 
 -- the clause of `token`, by the names of the loop

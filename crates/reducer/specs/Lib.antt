@@ -2,4 +2,3 @@ pub mod ReducedLines
 pub mod Answers
 pub mod Views
 pub mod Directives
-pub mod Stub

@@ -6,7 +6,6 @@ mod directive_lines;
 mod fronts;
 mod reduction;
 mod reduced;
-mod stub;
 
 pub use answer::Answer;
 pub use reduction::reduce;

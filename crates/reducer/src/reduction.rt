@@ -7,8 +7,8 @@ ghost use Rattle.reducer.specs.Directives.{IsPassed, kept_from};
 use crate::Reduced;
 use crate::directive_lines::{begins_directive, is_text};
 use crate::fronts::begins_text;
-use crate::stub::{pass_blanks, pass_token, token};
 use line_splice::Cursor;
+use pp_lexer::{pass_blanks, pass_token, token};
 use scan_model::{Items, Line, NoMemory, Tok};
 use std::alloc::Global;
 
