@@ -10,3 +10,6 @@ mod reduced;
 pub use answer::Answer;
 pub use reduction::reduce;
 pub use reduced::{LineHead, Reduced, TokView};
+
+#[cfg(test)]
+mod tests;

@@ -20,14 +20,14 @@ pub record IsRow {S O G : Type 0} (given_path : G → List ℕ) (outcome : G →
   pub given : given_path row.given ≡ row.path
   pub reduced : HasOwnLines outcome bytes row
 
--- what a read with this outcome and these bytes stands for, by whether its lines could be kept
-abbrev pub kept_content : Bool → Outcome → List ℕ → Content (List ℕ)
-kept_content false Present bytes = NoMemory
-kept_content has_lines outcome bytes = content outcome bytes
+-- what a read with this outcome and these bytes stands for, by whether a row has its lines
+abbrev pub stands_for : Bool → Outcome → List ℕ → Content (List ℕ)
+stands_for false Present bytes = NoMemory
+stands_for has_lines outcome bytes = content outcome bytes
 
 -- what a row stands for
 abbrev pub row_content : {S O G : Type 0} → (G → Outcome) → (G → List ℕ) → KeptRow S O G → Content (List ℕ)
-row_content outcome bytes row = kept_content (is_some row.reduced) (outcome row.given) (bytes row.given)
+row_content outcome bytes row = stands_for (is_some row.reduced) (outcome row.given) (bytes row.given)
 
 -- ## Shards
 
