@@ -1,5 +1,5 @@
 -- Steps of a cursor along its line.
-use Rattle.std.proofs.Common.{◌≡◌, ◌≢◌, ℕ, zero, suc, ◌+◌, ◌-◌, ◌<◌, ◌≤◌, Bool, true, false, ◌==◌, List, [], ◌∷◌, refl, ap, sym, ◌∙◌, inl, inr, drop, length, length-drop, slice_index, arith, Option, Some, None}
+use Rattle.std.proofs.Common.{◌<◌, ◌≡◌, ◌≢◌, ℕ, suc, ◌+◌, ◌<◌, ◌≤◌, List, [], ◌∷◌, refl, ap, sym, ◌∙◌, drop, length, length-drop, arith, Some, None}
 use Rattle.std.proofs.lemmas.Bool.{ne_eqb, eq-eqb}
 use Rattle.std.proofs.lemmas.List.{drop-drop}
 use Rattle.scan_model.specs.Spliced.{Spot, byte_at}
@@ -42,3 +42,7 @@ along_end a b along none =
     let z : length (drop along.len (line a)) ≡ 0 = ap length (sym (along_line a b along) ∙ none) in
     let e : along.len ≡ length (line a) = omega (arith, z, length-drop along.len (line a), along.within) in
     along.left ∙ ap (λ k. drop k a) e
+
+-- a byte that is no newline is on the line
+pub line_some : (s : List Spot) (c : ℕ) → byte_at s ≡ Some c → c ≢ 10 → 0 < length (line s)
+line_some s c here ne = omega (arith, ap length (line-cons s c here ne))

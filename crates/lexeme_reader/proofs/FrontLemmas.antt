@@ -1,7 +1,7 @@
 -- The character that begins a line.
-use Rattle.std.proofs.Common.{◌≡◌, ◌≢◌, ℕ, suc, ◌+◌, ◌<◌, ◌≤◌, Bool, true, false, cond, ◌==◌, ◌&&◌, nat_lt, List, [], ◌∷◌, ◌++◌, refl, ap, sym, ◌∙◌, inl, inr, drop, length, length-append, Some, arith}
+use Rattle.std.proofs.Common.{◌≡◌, ℕ, ◌<◌, ◌≤◌, Bool, true, false, ◌==◌, ◌&&◌, List, [], ◌∷◌, ◌++◌, refl, ap, sym, ◌∙◌, drop, length, length-append, Some, arith}
 use Rattle.std.proofs.lemmas.Bool.{ne_eqb, and_from, and_parts, lt-ltb}
-use Rattle.std.proofs.lemmas.List.{append_assoc, append-nil}
+use Rattle.std.proofs.lemmas.List.{append-nil}
 use Rattle.std.proofs.lemmas.Str.{encode_ascii, length-encode, len_utf8_bounds}
 use Rattle.std.proofs.lemmas.Bool.Decides.{nat_tests}
 use Rattle.std.specs.Char.{IsScalar, encode_utf8}
@@ -13,7 +13,7 @@ use Rattle.scan_model.proofs.RestLemmas.{rest_of_line-newline}
 use Rattle.lexeme_reader.specs.Character.{BeginsWith, NoCharacter}
 use Rattle.lexeme_reader.specs.Fronts.{line, character_len}
 use Rattle.lexeme_reader.proofs.SpotLemmas.{bytes-cons, length-bytes}
-use Rattle.lexeme_reader.proofs.TextLemmas.{longest_text, EndsAt}
+use Rattle.lexeme_reader.proofs.TextLemmas.{longest_text}
 use Rattle.lexeme_reader.proofs.LineLemmas.{line-character, line_begins, length-rest_of_line}
 
 pub scalar_one : (c : ℕ) → all_scalars (c ∷ []) ≡ true → BeginsWith c (encode_utf8 c)

@@ -1,15 +1,14 @@
 -- The longest front that is a header name.
-use Rattle.std.proofs.Common.{◌≡◌, ◌≢◌, ℕ, zero, suc, ◌+◌, ◌-◌, ◌<◌, ◌≤◌, Bool, true, false, not, cond, ◌==◌, ◌&&◌, ◌||◌, nat_lt, List, [], ◌∷◌, refl, ap, sym, ◌∙◌, inl, inr, drop, take, length, length-take, length-drop, slice_index, arith, zero-add, Some, None}
-use Rattle.std.proofs.lemmas.Bool.{and_left, and_right, and_parts, and_from, or_cases, cases_lt, cases_eq, cases_Bool, eqb-true, eqb-false, ne_eqb, eq-eqb, lt-ltb, le-ltb}
+use Rattle.std.proofs.Common.{◌≡◌, ◌≢◌, ℕ, zero, suc, ◌+◌, ◌-◌, ◌<◌, ◌≤◌, Bool, true, false, not, cond, ◌==◌, ◌&&◌, ◌||◌, nat_lt, List, [], ◌∷◌, refl, ap, sym, ◌∙◌, inl, inr, drop, take, length, length-drop, slice_index, arith, zero-add, Some}
+use Rattle.std.proofs.lemmas.Bool.{and_left, and_right, and_parts, and_from, or_cases, cases_lt, eqb-true, ne_eqb, eq-eqb, lt-ltb, le-ltb}
 use Rattle.std.proofs.lemmas.List.{drop-drop, length-take-le}
-use Rattle.std.proofs.lemmas.List.Sums.{prefix_len-le-length}
 use Rattle.std.proofs.lemmas.List.Folds.{length-prefix_len}
 use Rattle.std.specs.List.{list_all, prefix_len}
 use Rattle.scan_model.specs.Spliced.{Spot, byte_at}
 use Rattle.scan_model.specs.Spelling.{closes_with, is_header, longest}
 use Rattle.scan_model.specs.Tokens.{bytes}
 use Rattle.scan_model.proofs.LongestLemmas.{longest_is}
-use Rattle.lexeme_reader.specs.Fronts.{line, Along}
+use Rattle.lexeme_reader.specs.Fronts.{line}
 use Rattle.lexeme_reader.specs.Headers.{closes_header, len_before, PassesClosing}
 use Rattle.lexeme_reader.proofs.LineLemmas.{is_one_line, is_one_line-rest_of_line}
 use Rattle.lexeme_reader.proofs.AlongLemmas.{line-cons, line-drop}

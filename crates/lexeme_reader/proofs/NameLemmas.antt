@@ -1,21 +1,16 @@
 -- The longest front that is a name.
-use Rattle.std.proofs.Common.{◌≡◌, ◌≢◌, ℕ, zero, suc, ◌+◌, ◌<◌, ◌≤◌, Bool, true, false, not, ◌==◌, ◌&&◌, ◌||◌, cond, nat_lt, List, [], ◌∷◌, ◌++◌, refl, ap, sym, ◌∙◌, inl, inr, drop, take, length, length-append, arith}
-use Rattle.std.proofs.lemmas.Bool.{and_from, and_parts, and_right, ne_eqb, lt-ltb, cases_eq, true≢false}
-use Rattle.std.proofs.lemmas.List.{append-nil}
-use Rattle.std.proofs.lemmas.Str.{length-encode, len_utf8_bounds}
+use Rattle.std.proofs.Common.{◌≡◌, ℕ, Bool, true, false, ◌==◌, nat_lt, List, [], ◌∷◌, ◌++◌, refl, ap, sym, ◌∙◌, drop, length, arith}
+use Rattle.std.proofs.lemmas.Bool.{and_from, and_right, ne_eqb}
 use Rattle.std.specs.List.{list_all}
 use Rattle.std.specs.Char.{encode_utf8}
-use Rattle.std.specs.Str.{encode_utf8_all, all_scalars}
 use Rattle.scan_model.specs.Spliced.{Spot}
 use Rattle.scan_model.specs.Spelling.{is_start, is_continue, is_name, are_name, longest}
-use Rattle.scan_model.specs.Tokens.{bytes, rest_of_line}
-use Rattle.scan_model.proofs.LongestLemmas.{longest_beyond}
+use Rattle.scan_model.specs.Tokens.{bytes}
 use Rattle.lexeme_reader.specs.Character.{BeginsWith, NoCharacter}
 use Rattle.lexeme_reader.specs.Fronts.{line}
 use Rattle.lexeme_reader.specs.Passes.{Passes}
 use Rattle.lexeme_reader.specs.Names.{PassesName}
-use Rattle.lexeme_reader.proofs.TextLemmas.{longest_text, EndsAt, is_text_of, text_passes, take_front}
-use Rattle.lexeme_reader.proofs.LineLemmas.{line-character}
+use Rattle.lexeme_reader.proofs.TextLemmas.{EndsAt}
 use Rattle.lexeme_reader.proofs.PassLemmas.{passes_none, passes_one, passes_more, passes_longest, passes_longest_whole, longest_positive, list_all-append, first_begins, same_character}
 
 -- a newline neither starts a name nor goes on with one

@@ -1,19 +1,15 @@
 -- The longest front that is a number.
-use Rattle.std.proofs.Common.{◌≡◌, ◌≢◌, ℕ, zero, suc, ◌+◌, ◌<◌, ◌≤◌, Bool, true, false, not, ◌==◌, ◌&&◌, ◌||◌, cond, nat_lt, List, [], ◌∷◌, ◌++◌, refl, ap, sym, ◌∙◌, inl, inr, subst, drop, take, length, length-append, arith, Option, Some, None}
-use Rattle.std.proofs.lemmas.Bool.{and_from, and_parts, and_left, and_right, or_parts, or_cases, or_left, or_from, ne_eqb, eqb-true, lt-ltb, cases_eq, cases_Bool, true≢false, false_from_ne_true}
+use Rattle.std.proofs.Common.{◌≡◌, ℕ, ◌<◌, Bool, true, false, ◌==◌, ◌&&◌, ◌||◌, nat_lt, List, [], ◌∷◌, ◌++◌, refl, ap, sym, ◌∙◌, inl, inr, subst, drop, length, arith}
+use Rattle.std.proofs.lemmas.Bool.{and_from, and_parts, and_left, and_right, or_cases, or_left, ne_eqb, eqb-true, cases_Bool, true≢false}
 use Rattle.std.proofs.lemmas.Bool.Decides.{nat_tests}
-use Rattle.std.proofs.lemmas.List.{append-nil, append_assoc}
-use Rattle.std.proofs.lemmas.Str.{length-encode, len_utf8_bounds}
-use Rattle.std.specs.List.{list_all}
-use Rattle.std.specs.Char.{encode_utf8, is_ascii_digit, is_ascii_alphabetic, is_ascii_alphanumeric}
+use Rattle.std.proofs.lemmas.List.{append_assoc}
+use Rattle.std.specs.Char.{encode_utf8, is_ascii_digit, is_ascii_alphanumeric}
 use Rattle.std.specs.Str.{encode_utf8_all, all_scalars}
 use Rattle.scan_model.specs.Spliced.{Spot}
 use Rattle.scan_model.specs.Spelling.{first, is_continue, is_number, are_number, goes_on, go_on, is_exponent, longest}
-use Rattle.scan_model.specs.Tokens.{bytes, rest_of_line}
-use Rattle.scan_model.proofs.LongestLemmas.{longest_beyond}
+use Rattle.scan_model.specs.Tokens.{bytes}
 use Rattle.lexeme_reader.specs.Character.{BeginsWith, NoCharacter}
 use Rattle.lexeme_reader.specs.Fronts.{line}
-use Rattle.lexeme_reader.specs.Passes.{Passes}
 use Rattle.lexeme_reader.specs.Numbers.{last, PassesNumber, GoesOn, StopsNumber}
 use Rattle.lexeme_reader.proofs.TextLemmas.{EndsAt}
 use Rattle.lexeme_reader.proofs.PassLemmas.{passes_none, passes_one, passes_more, passes_longest, longest_positive, passes_shorter, first_begins, same_character, after_character}

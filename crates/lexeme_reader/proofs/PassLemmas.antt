@@ -1,7 +1,7 @@
 -- What a cursor that passes characters has passed of its line.
-use Rattle.std.proofs.Common.{◌≡◌, ◌≢◌, ℕ, zero, suc, ◌+◌, ◌-◌, ◌<◌, ◌≤◌, Bool, true, false, not, ◌==◌, ◌&&◌, List, [], ◌∷◌, ◌++◌, refl, ap, sym, ◌∙◌, inl, inr, nat_lt, drop, take, length, length-append, length-drop, arith}
+use Rattle.std.proofs.Common.{◌≡◌, ℕ, ◌+◌, ◌<◌, ◌≤◌, Bool, true, false, not, ◌==◌, List, [], ◌∷◌, ◌++◌, refl, ap, sym, ◌∙◌, inl, inr, nat_lt, drop, take, length, length-append, arith}
 use Rattle.std.proofs.lemmas.Bool.{and_from, and_parts, cases_eq, true≢false, lt-ltb}
-use Rattle.std.proofs.lemmas.List.{append_assoc, append-nil, drop-drop, drop-append-le}
+use Rattle.std.proofs.lemmas.List.{append_assoc, append-nil, drop-drop}
 use Rattle.std.proofs.lemmas.Str.{encodes-append, length-le-encodes, encode_same}
 use Rattle.std.specs.List.{list_all}
 use Rattle.std.specs.Char.{encode_utf8}

@@ -1,5 +1,5 @@
 -- Places of spots in the text.
-use Rattle.std.proofs.Common.{◌≡◌, ◌≢◌, ℕ, ◌+◌, ◌<◌, ◌≤◌, Bool, true, false, ◌==◌, List, [], ◌∷◌, refl, ap, sym, ◌∙◌, inl, inr, drop, length, arith, Option, Some, None}
+use Rattle.std.proofs.Common.{◌≡◌, ◌≢◌, ℕ, ◌+◌, ◌<◌, ◌==◌, List, [], ◌∷◌, ap, sym, ◌∙◌, inl, inr, drop, length, arith, Some}
 use Rattle.std.proofs.lemmas.Bool.{cases_lt, cond_both}
 use Rattle.std.proofs.lemmas.List.{drop_all}
 use Rattle.line_splice.specs.declared.cursor.Cursor.{Cursor}

@@ -1,19 +1,18 @@
 -- The longest front that is a quoted literal.
-use Rattle.std.proofs.Common.{◌≡◌, ◌≢◌, ℕ, zero, suc, ◌+◌, ◌-◌, ◌<◌, ◌≤◌, Bool, true, false, not, cond, ◌==◌, ◌&&◌, ◌||◌, List, [], ◌∷◌, ◌++◌, refl, ap, sym, ◌∙◌, inl, inr, is_some, drop, take, length, length-take, length-drop, slice_index, get_or, arith, Option, Some, None, nat_eq}
-use Rattle.std.proofs.lemmas.Bool.{and_right, and_from, cases_eq, cases_lt, ne_eqb, eq-eqb, or_right, eqb-true, true≢false, cond_both, and_parts, MatchBool-at_true, MatchBool-at_false}
+use Rattle.std.proofs.Common.{◌≡◌, ◌≢◌, ℕ, zero, suc, ◌+◌, ◌-◌, ◌<◌, ◌≤◌, Bool, true, false, not, cond, ◌==◌, ◌&&◌, ◌||◌, List, [], ◌∷◌, refl, ap, sym, ◌∙◌, inl, inr, is_some, drop, take, length, length-take, length-drop, slice_index, arith, Some, None, nat_eq}
+use Rattle.std.proofs.lemmas.Bool.{and_right, cases_eq, cases_lt, ne_eqb, eq-eqb, or_right, eqb-true, true≢false, cond_both}
 use Rattle.std.proofs.lemmas.List.{drop-drop, drop-take, get_or-take, get_or_past}
 use Rattle.std.specs.Option.{option_map_or}
 use Rattle.scan_model.specs.Spliced.{Spot, byte_at}
 use Rattle.lexeme_reader.specs.declared.quoted.Quote.{Quote}
 use Rattle.lexeme_reader.specs.declared.quoted.Quote.TheVariants.{Single, Double}
-use Rattle.lexeme_reader.specs.declared.quoted.Opening.{Opening}
 use Rattle.lexeme_reader.specs.declared.quoted.Opening.TheVariants.{Quoted, Raw}
-use Rattle.scan_model.specs.Spelling.{encoding_len, opens, opens_raw, after_items, after_quoted, is_quoted, is_suffix, is_name, longest}
+use Rattle.scan_model.specs.Spelling.{encoding_len, opens, after_items, after_quoted, is_quoted, is_suffix, is_name, longest}
 use Rattle.scan_model.proofs.LongestLemmas.{longest_is, longest_le, longest_passes, longest_beyond}
 use Rattle.scan_model.proofs.QuotedLemmas.{Closes, closes}
 use Rattle.lexeme_reader.specs.Fronts.{line, Along}
 use Rattle.lexeme_reader.specs.Quotes.{quote_byte, IsOpening, encoding_of, opening_of, PassesItems}
-use Rattle.lexeme_reader.proofs.AlongLemmas.{line-cons, line-drop, along_line, along_more, along_end}
+use Rattle.lexeme_reader.proofs.AlongLemmas.{line-cons, line-drop, along_line}
 
 -- ## Prefixes
 

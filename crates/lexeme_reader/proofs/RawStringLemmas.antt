@@ -1,8 +1,7 @@
 -- Raw strings, part by part.
-use Rattle.std.proofs.Common.{◌≡◌, ◌≢◌, ℕ, zero, suc, ◌+◌, ◌-◌, ◌<◌, ◌≤◌, Bool, true, false, ◌==◌, ◌&&◌, cond, List, [], ◌∷◌, ◌++◌, refl, ap, sym, ◌∙◌, inl, inr, drop, take, length, length-drop, slice_index, get_or, add-zero, arith, Option, Some, None}
+use Rattle.std.proofs.Common.{◌≡◌, ℕ, ◌+◌, ◌-◌, ◌<◌, ◌≤◌, true, false, ◌==◌, cond, List, [], ◌∷◌, ◌++◌, refl, ap, sym, ◌∙◌, inl, inr, drop, take, length, length-drop, slice_index, add-zero, arith, Some}
 use Rattle.std.proofs.lemmas.Bool.{and_parts, cases_lt, eqb-true, eq-eqb, true≢false}
-use Rattle.std.proofs.lemmas.List.{drop-drop, get_or-drop, get_or-take, get_or_past, length-take-le, append-nil, take_rest}
-use Rattle.scan_model.specs.declared.token.Kind.{Kind}
+use Rattle.std.proofs.lemmas.List.{drop-drop, get_or-drop, get_or-take, get_or_past, length-take-le}
 use Rattle.scan_model.specs.declared.token.Kind.TheVariants.{Str, Stray}
 use Rattle.scan_model.specs.Spliced.{Spot, byte_at}
 use Rattle.scan_model.specs.Spelling.{encoding_len, opens_raw, delimiter, is_delimited, after_word, after_raw, is_suffix, is_name, longest}

@@ -1,5 +1,5 @@
 -- The bytes of spots, one by one.
-use Rattle.std.proofs.Common.{◌≡◌, ◌≢◌, ℕ, zero, suc, ◌+◌, ◌<◌, List, [], ◌∷◌, ◌++◌, refl, ap, ◌∙◌, sym, drop, take, length, length-drop, arith, Some, None, slice_index}
+use Rattle.std.proofs.Common.{◌≡◌, ◌≢◌, ℕ, zero, suc, ◌+◌, ◌<◌, List, [], ◌∷◌, ◌++◌, refl, ap, ◌∙◌, drop, take, length, length-drop, arith, Some, None}
 use Rattle.std.specs.List.{take-map}
 use Rattle.scan_model.specs.Spliced.{Spot, byte_at}
 use Rattle.scan_model.specs.Tokens.{bytes}

@@ -1,5 +1,5 @@
 -- How quoted literals open ([lex.ccon], [lex.string]).
-use Rattle.std.specs.Prelude.{◌≡◌, ℕ, ◌+◌, Bool, true, false, ◌&&◌, ◌||◌, ◌==◌, if◌then◌else◌, List, Option, Some, None, length, drop}
+use Rattle.std.specs.Prelude.{◌≡◌, ℕ, Bool, true, false, ◌&&◌, ◌||◌, ◌==◌, if◌then◌else◌, List, Option, Some, None, length, drop}
 use Rattle.std.specs.Bool.{MatchBool}
 use Rattle.scan_model.specs.Spliced.{Spot}
 use Rattle.scan_model.specs.Spelling.{opens, opens_raw, after_items}

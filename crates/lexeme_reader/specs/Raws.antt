@@ -1,7 +1,6 @@
 -- How a raw string's spelling is put together ([lex.string]).
-use Rattle.std.specs.Prelude.{◌≡◌, ℕ, ◌+◌, ◌-◌, ◌<◌, ◌≤◌, Bool, true, false, not, ◌||◌, ◌==◌, if◌then◌else◌, List, [], ◌∷◌, ◌++◌, take, drop, length, Option, Some, None}
+use Rattle.std.specs.Prelude.{◌≡◌, ℕ, ◌-◌, ◌<◌, ◌≤◌, Bool, true, not, ◌||◌, ◌==◌, if◌then◌else◌, List, ◌++◌, take, drop, length}
 use Rattle.line_splice.specs.Cursor.{text_of, rest}
-use Rattle.scan_model.specs.declared.token.Kind.{Kind}
 use Rattle.scan_model.specs.declared.token.Kind.TheVariants.{Str, Stray}
 use Rattle.scan_model.specs.Spliced.{Spot}
 use Rattle.scan_model.specs.Spelling.{is_blank, is_name, is_delimited, delimiter, after_raw, longest}

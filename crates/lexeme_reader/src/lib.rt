@@ -18,3 +18,6 @@ pub use number::{begins_number, pass_number};
 pub use quoted::{Opening, Quote, literal_at, pass_quoted};
 pub use raw::{RawParts, RawSpelling, pass_raw};
 pub use steps::pass_bytes;
+
+#[cfg(test)]
+mod tests;

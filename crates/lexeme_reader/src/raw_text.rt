@@ -7,7 +7,11 @@ ghost use Rattle.lexeme_reader.specs.Raws.{in_delimiter, IsDelimiter};
 fn in_delimiter(byte: u8) -> bool
     ensures { result ≡ in_delimiter byte }
 {
-    let is_blank = (byte == b' ') | (byte == b'\t') | (byte == 0x0B) | (byte == 0x0C) | (byte == b'\r');
+    let is_blank = (byte == b' ')
+        | (byte == b'\t')
+        | (byte == 0x0B)
+        | (byte == 0x0C)
+        | (byte == b'\r');
     !(is_blank | (byte == b'\n') | (byte == b')') | (byte == b'\\'))
 }
 

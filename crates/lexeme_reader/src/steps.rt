@@ -5,7 +5,7 @@ ghost use Rattle.lexeme_reader.specs.Fronts.{line};
 
 use line_splice::Cursor;
 
-/// Passes the next bytes that show.
+/// Passes the next bytes, as many as the count says. They have to be there.
 pub fn pass_bytes(at: &mut Cursor<'_>, count: usize)
     requires { count ≤ length (rest at.old) }
     ensures text { text_of at.new ≡ text_of at.old }
@@ -21,9 +21,7 @@ pub fn first_byte(at: &Cursor<'_>) -> u8
     ensures { result ≡ slice_index (line (rest at.now)) 0 }
 {
     match at.peek() {
-        Some(byte) => {
-            if byte == b'\n' { 0 } else { byte }
-        }
+        Some(byte) => { if byte == b'\n' { 0 } else { byte } }
         None => 0,
     }
 }

@@ -20,6 +20,7 @@ fn shows(rt: &impl Abort, text: &[u8], spots: &[(u8, usize, u32)], last: u32) ->
     }
     assert!(rt; at.is_end());
     assert_eq!(rt; at.raw_from(), text.len());
+    assert_eq!(rt; at.text(), text);
     assert_eq!(rt; at.line(), last);
     Ok(())
 }

@@ -1,20 +1,15 @@
 -- The longest front that is a token is the longest of one class, which the first bytes tell.
-use Rattle.std.proofs.Common.{◌≡◌, ℕ, zero, suc, ◌+◌, ◌-◌, ◌<◌, ◌≤◌, Bool, true, false, not, cond, ◌==◌, ◌&&◌, ◌||◌, nat_eq, nat_le, List, [], ◌∷◌, ◌++◌, refl, ap, sym, ◌∙◌, inl, inr, take, drop, length, length-take, slice_index, arith, get_or}
-use Rattle.std.proofs.lemmas.Bool.{and_parts, and_from, and_left, or_cases, or_left, or_right, or_from, or_parts, cases_lt, cases_eq, cases_Bool, eqb-true, eq-eqb, ne_eqb, le-leb, leb-true, not_from_true, not_from_false, not-true, cond_both, agree_below_at, false_from_ne_true, true≢false, false≢true}
-use Rattle.std.proofs.lemmas.Str.{encode_ascii, inside_one, chars_from_encodes, IsUtf8-from_is_utf8}
-use Rattle.std.specs.Option.{option_map_or}
-use Rattle.std.specs.List.{list_all, starts_with}
-use Rattle.std.specs.Char.{is_ascii_digit, encode_utf8}
-use Rattle.std.specs.Str.{is_utf8, IsUtf8, chars, encode_utf8_all}
+use Rattle.std.proofs.Common.{◌≡◌, ℕ, zero, suc, ◌<◌, ◌≤◌, Bool, true, false, not, cond, ◌==◌, ◌&&◌, ◌||◌, nat_le, List, [], ◌∷◌, refl, ap, sym, ◌∙◌, inl, inr, take, length, length-take, slice_index, arith}
+use Rattle.std.proofs.lemmas.Bool.{and_parts, and_from, and_left, or_cases, or_left, or_right, or_from, eqb-true, leb-true, not_from_true, not-true, agree_below_at, false_from_ne_true, true≢false}
+use Rattle.std.specs.Char.{is_ascii_digit}
 use Rattle.scan_model.specs.declared.token.Kind.{Kind}
-use Rattle.scan_model.specs.declared.token.Kind.TheVariants.{Ident, Number, Char, Str, Punct}
-use Rattle.scan_model.specs.Spelling.{first, is_start, is_continue, is_name, are_name, is_alternative, is_ident, punctuators, is_number, is_char, is_quoted, is_punct, is_one_of, is_suffix, encoding_len, opens, after_items, after_quoted, longest}
+use Rattle.scan_model.specs.declared.token.Kind.TheVariants.{Ident, Number, Punct}
+use Rattle.scan_model.specs.Spelling.{first, is_start, is_name, is_alternative, is_ident, punctuators, is_number, is_quoted, is_punct, is_one_of, opens, longest}
 use Rattle.scan_model.specs.Tokens.{is_token, kind_of}
 use Rattle.scan_model.proofs.Computing.{reading}
 use Rattle.scan_model.proofs.LongestLemmas.{longest_is, longest_le, longest_passes, longest_beyond}
-use Rattle.scan_model.proofs.QuotedLemmas.{Closes, closes}
-use Rattle.pp_lexer.proofs.ClassLemmas.{begins_word, name_first, begins_digits, number_first, alternative_name, is_mark, mark_first, mark_digits}
-use Rattle.pp_lexer.proofs.OpeningLemmas.{index-take, index_some, encoding-take, opens-take, no_opens-take, opens_reaches}
+use Rattle.pp_lexer.proofs.ClassLemmas.{begins_word, name_first, begins_digits, number_first, alternative_name, mark_first, mark_digits}
+use Rattle.pp_lexer.proofs.OpeningLemmas.{index-take, index_some, no_opens-take}
 
 -- ## First bytes that exclude each other
 

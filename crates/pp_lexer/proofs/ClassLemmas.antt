@@ -1,11 +1,11 @@
 -- Which classes a spelling can be of, by its first bytes.
-use Rattle.std.proofs.Common.{◌≡◌, ℕ, zero, suc, ◌+◌, ◌-◌, ◌<◌, ◌≤◌, Bool, true, false, not, cond, ◌==◌, ◌&&◌, ◌||◌, nat_lt, nat_le, List, [], ◌∷◌, ◌++◌, refl, ap, sym, ◌∙◌, subst, inl, inr, take, drop, length, length-take, slice_index, arith, codes}
-use Rattle.std.proofs.lemmas.Bool.{and_parts, or_cases, or_left, or_right, and_from, and_left, and_right, cases_lt, cases_Bool, le-leb, eq-eqb, eqb-true, ne_eqb, leb-true, false_from_ne_true, true≢false}
-use Rattle.std.proofs.lemmas.Str.{encode_ascii, char_from_byte, byte_from_char, chars_from_encodes, IsUtf8-from_is_utf8}
+use Rattle.std.proofs.Common.{◌≡◌, ℕ, ◌<◌, ◌≤◌, Bool, true, not, ◌==◌, ◌&&◌, ◌||◌, nat_le, List, [], ◌∷◌, ◌++◌, refl, ap, sym, ◌∙◌, inl, inr, slice_index, arith}
+use Rattle.std.proofs.lemmas.Bool.{and_parts, or_cases, or_left, or_right, and_from, cases_lt, le-leb, eqb-true, leb-true}
+use Rattle.std.proofs.lemmas.Str.{encode_ascii, char_from_byte, chars_from_encodes, IsUtf8-from_is_utf8}
 use Rattle.std.specs.List.{list_all}
-use Rattle.std.specs.Char.{is_ascii_digit, encode_utf8}
-use Rattle.std.specs.Str.{is_utf8, IsUtf8, chars, encode_utf8_all}
-use Rattle.scan_model.specs.Spelling.{first, is_start, is_continue, is_name, are_name, is_alternative, alternatives, punctuators, is_number, are_number, go_on, is_one_of, encoding_len, opens}
+use Rattle.std.specs.Char.{is_ascii_digit}
+use Rattle.std.specs.Str.{is_utf8, chars, encode_utf8_all}
+use Rattle.scan_model.specs.Spelling.{first, is_start, is_continue, is_name, are_name, is_alternative, alternatives, punctuators, is_number, are_number, go_on, is_one_of}
 use Rattle.scan_model.proofs.Computing.{reading}
 use Rattle.scan_model.proofs.LongestLemmas.{one_of_passes}
 
@@ -59,7 +59,7 @@ encoded_number (d ∷ ds) h =
           let dot : d ≡ 46 = eqb-true d 46 both.0 in
           ap (λ b. begins_digits (b ++ encode_utf8_all ds)) (encode_ascii d (omega arith))
           ∙ or_right (is_ascii_digit d) (d == 46 && is_ascii_digit (slice_index (encode_utf8_all ds) 0))
-            (and_from (d == 46) (is_ascii_digit (slice_index (encode_utf8_all ds) 0)) both.0 (digit_next ds both.1))
+          (and_from (d == 46) (is_ascii_digit (slice_index (encode_utf8_all ds) 0)) both.0 (digit_next ds both.1))
     ]
 
 pub number_first : (s : List ℕ) → is_number s ≡ true → begins_digits s ≡ true

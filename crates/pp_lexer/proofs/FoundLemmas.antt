@@ -1,5 +1,5 @@
 -- What has been found between two cursors.
-use Rattle.std.proofs.Common.{◌≡◌, ℕ, ◌<◌, ◌≤◌, Bool, true, false, cond, ◌&&◌, nat_lt, List, [], ◌∷◌, refl, ap, sym, ◌∙◌, subst, drop, length, arith, Option, Some, None}
+use Rattle.std.proofs.Common.{◌≡◌, ℕ, ◌<◌, true, false, ◌&&◌, nat_lt, List, refl, ap, sym, ◌∙◌, subst, drop, length, Option, Some, None}
 use Rattle.std.proofs.lemmas.Bool.{and_parts, ltb-true}
 use Rattle.line_splice.specs.declared.cursor.Cursor.{Cursor}
 use Rattle.line_splice.specs.Cursor.{rest}
@@ -9,14 +9,13 @@ use Rattle.lexeme_reader.specs.declared.quoted.Opening.TheVariants.{Quoted, Raw}
 use Rattle.lexeme_reader.specs.Fronts.{line}
 use Rattle.lexeme_reader.specs.Quotes.{IsOpening}
 use Rattle.scan_model.specs.declared.token.Kind.{Kind}
-use Rattle.scan_model.specs.declared.token.Kind.TheVariants.{Header, Stray}
+use Rattle.scan_model.specs.declared.token.Kind.TheVariants.{Header}
 use Rattle.scan_model.specs.declared.token.Tok.{Tok}
 use Rattle.scan_model.specs.Spliced.{Spot}
-use Rattle.scan_model.specs.Spelling.{is_header, opens, opens_raw, longest}
-use Rattle.scan_model.specs.Tokens.{Lexeme, bytes, cut, wants_header, is_open, lexeme, raw_lexeme}
+use Rattle.scan_model.specs.Spelling.{is_header, opens_raw, longest}
+use Rattle.scan_model.specs.Tokens.{Lexeme, bytes, wants_header, is_open, lexeme, raw_lexeme}
 use Rattle.scan_model.proofs.LongestLemmas.{longest_le}
 use Rattle.pp_lexer.specs.declared.lexeme.Found.{Found}
-use Rattle.pp_lexer.specs.declared.lexeme.Spelling.{Spelling}
 use Rattle.pp_lexer.specs.declared.lexeme.Spelling.TheVariants.{Shown}
 use Rattle.pp_lexer.specs.Lexemes.{is_raw, quote_of, IsQuoteAt, spelling_of, CanSpell, IsSpelled, GivesLexeme}
 use Rattle.pp_lexer.specs.Reads.{passed, IsAhead, GivesShown, not_raw, unquoted}
@@ -76,7 +75,7 @@ pub raw_found : (text text1 : List ℕ) (before : List Tok) (s s1 after : List S
     → IsOpening o (line s1) → is_raw o ≡ true → GivesLexeme text1 (raw_lexeme text1 s1) found s1 after → GivesLexeme text (lexeme text before s) found s after
 raw_found text text1 before s s1 after o found e f header opening raw given =
     let here : GivesLexeme text (raw_lexeme text s) found s after =
-        subst (λ u. GivesLexeme text (raw_lexeme text u) found u after) f (subst (λ t. GivesLexeme t (raw_lexeme t s1) found s1 after) e given) in
+    subst (λ u. GivesLexeme text (raw_lexeme text u) found u after) f (subst (λ t. GivesLexeme t (raw_lexeme t s1) found s1 after) e given) in
     raw_rule text before s header (raw_opens o (line s) (subst (λ u. IsOpening o (line u)) f opening) raw) ∙ here
 
 pub raw_spelled : (text text1 : List ℕ) (s s1 after : List Spot) (found : Found) → text1 ≡ text → s1 ≡ s → IsSpelled text1 found s1 after → IsSpelled text found s after

@@ -1,5 +1,5 @@
 -- The tokens after which a header name is tried, with their spellings as bytes.
-use Rattle.std.proofs.Common.{◌≡◌, ◌-◌, Bool, true, false, ◌&&◌, ◌||◌, nat_eq, List, [], ◌∷◌, refl, ap, sym, ◌∙◌, map, take, drop, length, codes}
+use Rattle.std.proofs.Common.{◌≡◌, ◌-◌, Bool, ◌&&◌, ◌||◌, nat_eq, List, [], ◌∷◌, refl, ap, sym, ◌∙◌, map, take, drop, length, codes}
 use lib.Pointwise.{pointwise}
 use Prim.Native.String.{String}
 use Rattle.scan_model.specs.declared.token.Tok.{Tok}

@@ -15,4 +15,5 @@ pub mod UnquotedLemmas
 pub mod RuleLemmas
 pub mod RawLemmas
 pub mod FoundLemmas
+pub mod WrittenLemmas
 pub mod PassingLemmas

@@ -1,16 +1,13 @@
 -- One turn of the loop over a text.
-use Rattle.std.proofs.Common.{◌≡◌, ℕ, zero, suc, ◌+◌, ◌-◌, ◌<◌, true, cond, ◌==◌, List, [], ◌∷◌, ◌++◌, refl, ap, sym, ◌∙◌, subst, drop, length, length-drop, arith, Option, Some, None}
-use Rattle.std.proofs.lemmas.Bool.{and_parts, cond_both}
+use Rattle.std.proofs.Common.{◌≡◌, ℕ, ◌-◌, ◌<◌, List, [], ◌∷◌, ◌++◌, refl, ap, sym, ◌∙◌, subst, drop, length, length-drop, arith, Option, Some, None}
 use Rattle.std.proofs.lemmas.List.{append_assoc}
-use Rattle.std.specs.List.{list_all}
 use Rattle.scan_model.specs.declared.token.Tok.{Tok}
 use Rattle.scan_model.specs.declared.token.Line.{Line}
-use Rattle.scan_model.specs.Spliced.{Spot, shown, spliced, mark_len, at_newline, is_hidden, line_at}
-use Rattle.scan_model.specs.Tokens.{bytes, after_blanks}
+use Rattle.scan_model.specs.Spliced.{Spot, spliced, line_at}
+use Rattle.scan_model.specs.Tokens.{after_blanks}
 use Rattle.scan_model.specs.Lines.{tok, closed, lines, lines_from}
 use Rattle.scan_model.proofs.BlankLemmas.{length-after_blanks}
 use Rattle.scan_model.proofs.LineLemmas.{next_takes, lines_from-token, lines_from-newline, lines_from-end}
-use Rattle.pp_lexer.specs.Plain.{is_plain, IsPlain}
 use Rattle.pp_lexer.specs.Reads.{GivesToken}
 
 pub lines_init : (text : List ℕ) (out : List Line) (toks : List Tok) (s : List Spot) → out ≡ [] → toks ≡ [] → s ≡ spliced text → out ++ lines_from text toks s ≡ lines text

@@ -1,11 +1,10 @@
 -- The first bytes of a line, read into a window of four.
-use Rattle.std.proofs.Common.{◌≡◌, ℕ, zero, suc, ◌+◌, ◌<◌, ◌≤◌, Bool, true, false, cond, ◌==◌, ◌&&◌, List, [], ◌∷◌, refl, ap, sym, ◌∙◌, take, drop, length, length-drop, slice_index, slice_set, arith, Some, None}
+use Rattle.std.proofs.Common.{◌≡◌, ℕ, zero, suc, ◌+◌, ◌<◌, ◌≤◌, true, false, List, [], ◌∷◌, refl, ap, sym, ◌∙◌, take, drop, length, length-drop, slice_set, arith}
 use Rattle.std.specs.Prelude.{unwrap_or}
 use Rattle.std.proofs.lemmas.Bool.{eq-eqb, ne_eqb, true≢false, cond_both}
-use Rattle.std.proofs.lemmas.List.{drop-drop}
 use Rattle.scan_model.specs.Spliced.{Spot, byte_at}
 use Rattle.scan_model.specs.Spelling.{is_one_of, punctuators, longest}
-use Rattle.scan_model.specs.Tokens.{bytes, rest_of_line, is_lone_less}
+use Rattle.scan_model.specs.Tokens.{bytes, is_lone_less}
 use Rattle.scan_model.proofs.RestLemmas.{rest_of_line-cons, rest_of_line-newline, rest_of_line-nil}
 use Rattle.scan_model.proofs.LongestLemmas.{longest_le}
 use Rattle.lexeme_reader.specs.Fronts.{line}

@@ -1,8 +1,8 @@
 -- Opening quotes, in a front of the text.
-use Rattle.std.proofs.Common.{◌≡◌, ℕ, zero, suc, ◌+◌, ◌-◌, ◌<◌, ◌≤◌, Bool, true, false, not, cond, ◌==◌, ◌&&◌, ◌||◌, nat_eq, List, [], ◌∷◌, refl, ap, sym, ◌∙◌, inl, inr, take, drop, length, length-take, slice_index, arith, codes}
-use Rattle.std.proofs.lemmas.Bool.{and_parts, and_right, ne_eqb, cases_lt, or_cases, cases_Bool, eqb-true, eq-eqb, cond_both, false_from_ne_true, true≢false}
+use Rattle.std.proofs.Common.{◌≡◌, ℕ, zero, suc, ◌<◌, ◌≤◌, Bool, true, false, cond, ◌==◌, ◌&&◌, ◌||◌, nat_eq, List, [], ◌∷◌, refl, ap, sym, ◌∙◌, inl, inr, take, length, length-take, slice_index, arith, codes}
+use Rattle.std.proofs.lemmas.Bool.{and_parts, and_right, ne_eqb, cases_lt, eqb-true, true≢false}
 use Rattle.std.specs.List.{starts_with}
-use Rattle.scan_model.specs.Spelling.{first, encoding_len, opens}
+use Rattle.scan_model.specs.Spelling.{encoding_len, opens}
 
 -- what a front has at a place is what the text has there
 pub index-take : (s : List ℕ) (m i : ℕ) → i < m → slice_index (take m s) i ≡ slice_index s i

@@ -1,5 +1,5 @@
 -- What shows between two cursors, byte by byte.
-use Rattle.std.proofs.Common.{◌≡◌, ◌≢◌, ℕ, zero, suc, ◌+◌, ◌-◌, ◌<◌, ◌≤◌, Bool, true, false, ◌==◌, nat_le, List, [], ◌∷◌, ◌++◌, refl, ap, sym, ◌∙◌, subst, inl, inr, take, drop, length, length-drop, length-take, slice_set, arith, cond, ◌||◌, Some, is_some}
+use Rattle.std.proofs.Common.{◌≡◌, ℕ, ◌+◌, ◌-◌, ◌<◌, ◌≤◌, Bool, true, false, nat_le, List, [], ◌∷◌, ◌++◌, refl, ap, sym, ◌∙◌, inl, inr, take, drop, length, length-drop, length-take, slice_set, arith, cond, ◌||◌, Some, is_some}
 use Rattle.std.proofs.lemmas.Bool.{cases_lt, leb-true, false_from_ne_true}
 use Rattle.std.proofs.lemmas.List.{drop-drop, append_assoc}
 use Rattle.std.specs.Prelude.{unwrap_or}
@@ -44,7 +44,7 @@ stops at t u text ahead along le higher = elim (cases_lt (length t) (length u)) 
       let u_len : length u ≡ length (drop i s) = ap length along in
       let some : 0 < length t = not_empty t s ahead.0 (omega (arith, lt, u_len, length-drop i s)) in
       let lower : place_at text (drop i s) < place_at text (drop j s) =
-          place_later at i j text (omega (arith, t_len, u_len, length-drop i s, length-drop j s)) (omega (arith, t_len, some, length-drop j s)) in
+      place_later at i j text (omega (arith, t_len, u_len, length-drop i s, length-drop j s)) (omega (arith, t_len, some, length-drop j s)) in
       let here : place_at text u ≡ place_at text (drop i s) = ap (place_at text) along in
       let there : place_at text t ≡ place_at text (drop j s) = ap (place_at text) ahead.1 in
       absurd (omega arith)
@@ -100,7 +100,7 @@ buffer_more s u v buffer k b along next some count room here same =
     let i = length s - length u in
     let front : take k buffer ≡ take k (bytes s) = same ∙ sym (bytes-take s i) ∙ ap (λ j. take j (bytes s)) (sym count) in
     let there : drop k (bytes s) ≡ b ∷ bytes (drop 1 u) =
-        ap (λ j. drop j (bytes s)) count ∙ sym (bytes-drop s i) ∙ ap bytes (sym along) ∙ bytes_here u b some here in
+    ap (λ j. drop j (bytes s)) count ∙ sym (bytes-drop s i) ∙ ap bytes (sym along) ∙ bytes_here u b some here in
     set_more buffer (bytes s) k b (bytes (drop 1 u)) front room there
     ∙ bytes-take s (k + 1) ∙ ap (λ j. bytes (take (j + 1) s)) count ∙ ap (λ j. bytes (take j s)) (sym (along_more s u v along next some).1)
 

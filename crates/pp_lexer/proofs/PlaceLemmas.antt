@@ -1,5 +1,5 @@
 -- What a cursor has still to show: its places rise, and it ends in a newline.
-use Rattle.std.proofs.Common.{◌≡◌, ℕ, zero, suc, ◌+◌, ◌-◌, ◌<◌, ◌≤◌, Bool, true, false, cond, ◌==◌, List, [], ◌∷◌, refl, ap, sym, ◌∙◌, inl, inr, take, drop, length, length-drop, arith}
+use Rattle.std.proofs.Common.{◌≡◌, ℕ, zero, suc, ◌+◌, ◌<◌, ◌≤◌, cond, ◌==◌, List, [], ◌∷◌, refl, ap, inl, inr, drop, length, arith}
 use Rattle.std.proofs.lemmas.Bool.{eqb-true, eq-eqb, cases_Bool, cond_both}
 use Rattle.line_splice.specs.declared.cursor.Cursor.{Cursor}
 use Rattle.line_splice.specs.Cursor.{rest}
@@ -13,7 +13,7 @@ abbrev pub Rises : ℕ → List Spot → Type 0
 Rises low [] = Unit {0}
 Rises low (x ∷ s) = (low ≤ x.place) × Rises (x.place + 1) s
 
-shown_rises : (low last before place line : ℕ) (t : List ℕ) → low ≤ place → Rises low (shown last before place line t)
+pub shown_rises : (low last before place line : ℕ) (t : List ℕ) → low ≤ place → Rises low (shown last before place line t)
 unfolding shown
 shown_rises low last before place line [] h =
     cond_both (last == 10) [] (record { byte = 10; place = place; line = line } ∷ []) (Rises low) (λ e. tt) (λ e. (h, tt))
@@ -28,7 +28,7 @@ rest_rises : (at : Cursor) → Rises 0 (rest at)
 unfolding rest
 rest_rises at = shown_rises 0 at.last 0 at.place at.line (drop at.place at.text.now) (omega arith)
 
-above : (low : ℕ) (s : List Spot) (j : ℕ) (text : List ℕ) → Rises low s → j < length s → low ≤ place_at text (drop j s)
+pub above : (low : ℕ) (s : List Spot) (j : ℕ) (text : List ℕ) → Rises low s → j < length s → low ≤ place_at text (drop j s)
 above low [] j text h lt = absurd (omega arith)
 above low (x ∷ s) zero text h lt = h.0
 above low (x ∷ s) (suc j) text h lt = let k = above (x.place + 1) s j text h.1 (omega arith) in omega (arith, k, h.0)

@@ -1,6 +1,6 @@
 -- Where a quote opens, the longest front that is a token is the longest quoted one.
-use Rattle.std.proofs.Common.{◌≡◌, ℕ, zero, suc, ◌+◌, ◌-◌, ◌<◌, ◌≤◌, Bool, true, false, cond, ◌==◌, ◌&&◌, ◌||◌, nat_eq, nat_le, List, [], ◌∷◌, ◌++◌, refl, ap, sym, ◌∙◌, inl, inr, take, drop, length, length-take, length-drop, slice_index, arith, get_or, codes, append-nil, ◌⊎◌, Option, Some, None}
-use Rattle.std.proofs.lemmas.Bool.{and_parts, and_from, and_left, or_cases, or_left, or_right, cases_lt, cases_Bool, eqb-true, eq-eqb, ne_eqb, cond_both, le-leb, false_from_ne_true, true≢false}
+use Rattle.std.proofs.Common.{◌≡◌, ℕ, zero, suc, ◌+◌, ◌<◌, ◌≤◌, Bool, true, false, cond, ◌==◌, ◌&&◌, ◌||◌, nat_eq, nat_le, List, [], ◌∷◌, ◌++◌, refl, ap, sym, ◌∙◌, inl, inr, take, drop, length, length-take, length-drop, slice_index, arith, get_or, codes, append-nil, ◌⊎◌, Some}
+use Rattle.std.proofs.lemmas.Bool.{and_parts, and_from, and_left, or_cases, or_left, or_right, cases_lt, eqb-true, eq-eqb, cond_both, le-leb, false_from_ne_true, true≢false}
 use Rattle.std.proofs.lemmas.List.{drop-take}
 use Rattle.std.proofs.lemmas.Str.{encode_ascii, inside_one, chars_from_encodes, IsUtf8-from_is_utf8}
 use Rattle.std.specs.Option.{option_map_or}
@@ -8,12 +8,11 @@ use Rattle.std.specs.List.{list_all, starts_with}
 use Rattle.std.specs.Char.{encode_utf8, is_ascii_digit}
 use lib.Pointwise.{pointwise}
 use Rattle.std.specs.Str.{is_utf8, chars, encode_utf8_all}
-use Rattle.scan_model.specs.declared.token.Kind.{Kind}
 use Rattle.scan_model.specs.declared.token.Kind.TheVariants.{Char, Str}
-use Rattle.scan_model.specs.Spelling.{first, is_start, is_continue, is_name, are_name, is_alternative, is_ident, punctuators, is_number, is_quoted, is_punct, is_one_of, is_suffix, encoding_len, opens, after_items, after_quoted, longest}
+use Rattle.scan_model.specs.Spelling.{first, is_start, is_continue, is_name, are_name, is_ident, punctuators, is_number, is_quoted, is_punct, is_one_of, is_suffix, encoding_len, opens, after_items, after_quoted, longest}
 use Rattle.scan_model.specs.Tokens.{is_token, kind_of}
 use Rattle.scan_model.proofs.LongestLemmas.{longest_is, longest_le, longest_passes, longest_beyond}
-use Rattle.scan_model.proofs.QuotedLemmas.{Closes, closes}
+use Rattle.scan_model.proofs.QuotedLemmas.{closes}
 use Rattle.pp_lexer.proofs.ClassLemmas.{begins_word, begins_digits, number_first}
 use Rattle.pp_lexer.proofs.OpeningLemmas.{index-take, index_some, encoding-take, opens-take, opens_reaches}
 use Rattle.pp_lexer.proofs.ChoiceLemmas.{digits_word, Mark, mark_facts, punct_no}
@@ -195,10 +194,10 @@ quoted_some q o s r quote opening after =
     let whole = c.whole in
     let le : m ≤ length s = omega (arith, whole, within, length-drop (i + 1) s) in
     let inside : after_quoted q (take m s) ≡ Some [] =
-        ap (λ k. after_items q false (drop (k + 1) (take m s))) (encoding-take s m reaches)
-        ∙ ap (after_items q false) (drop-take (i + 1) c.len s) ∙ c.long c.len 0 (omega arith) in
+    ap (λ k. after_items q false (drop (k + 1) (take m s))) (encoding-take s m reaches)
+    ∙ ap (after_items q false) (drop-take (i + 1) c.len s) ∙ c.long c.len 0 (omega arith) in
     let passes : is_quoted q (take m s) ≡ true =
-        and_from (opens q (take m s)) _ (opens-take q s m reaches ∙ opening) (ap (λ a. option_map_or is_suffix a false) inside) in
+    and_from (opens q (take m s)) _ (opens-take q s m reaches ∙ opening) (ap (λ a. option_map_or is_suffix a false) inside) in
     elim (cases_lt 0 (longest (is_quoted q) s)) [
       | inl some ↦ some
       | inr none ↦ absurd (true≢false (sym passes ∙ longest_beyond (is_quoted q) s m (omega arith) le))

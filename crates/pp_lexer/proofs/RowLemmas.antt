@@ -1,7 +1,6 @@
 -- The longest punctuator is the longest row of the table.
-use Rattle.std.proofs.Common.{◌≡◌, ℕ, zero, suc, ◌+◌, ◌-◌, ◌<◌, ◌≤◌, Bool, true, false, cond, ◌==◌, ◌&&◌, ◌||◌, nat_eq, nat_le, List, [], ◌∷◌, refl, ap, sym, ◌∙◌, inl, inr, take, length, length-take, arith, codes, Option, Some, None}
-use Rattle.std.proofs.lemmas.Bool.{and_parts, cases_Bool, cases_lt, cond_both, leb-true, leb-false, false_from_ne_true, true≢false}
-use Rattle.std.proofs.lemmas.List.{take-take}
+use Rattle.std.proofs.Common.{◌≡◌, ℕ, zero, suc, ◌≤◌, Bool, true, false, cond, ◌||◌, nat_eq, nat_le, List, [], ◌∷◌, refl, ap, sym, ◌∙◌, inl, inr, take, length, length-take, arith, Option, Some, None}
+use Rattle.std.proofs.lemmas.Bool.{and_parts, cases_Bool, cond_both, leb-true, leb-false, false_from_ne_true, true≢false}
 use Rattle.std.specs.List.{list_any, list_all, starts_with}
 use lib.Pointwise.{pointwise}
 use Rattle.scan_model.specs.Spelling.{is_one_of, punctuators, longest, longest_up_to}

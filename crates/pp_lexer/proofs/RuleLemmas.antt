@@ -1,6 +1,6 @@
 -- The lexeme, by the first rule that applies.
-use Rattle.std.proofs.Common.{◌≡◌, ◌≢◌, ℕ, ◌+◌, ◌<◌, ◌≤◌, Bool, true, false, cond, ◌==◌, ◌&&◌, ◌||◌, nat_lt, List, [], ◌∷◌, refl, ap, sym, ◌∙◌, inl, inr, take, drop, length, arith, Option, Some, None, is_none, is_some, ◌⊎◌}
-use Rattle.std.proofs.lemmas.Bool.{and_parts, and_from, and_left, and_right, or_from, or_left, or_right, lt-ltb, false_from_ne_true, true≢false, OnTrue_at, OnFalse_at, cases_Bool}
+use Rattle.std.proofs.Common.{◌≡◌, ℕ, ◌<◌, ◌≤◌, Bool, true, false, ◌==◌, ◌&&◌, nat_lt, List, refl, ap, sym, ◌∙◌, inl, inr, drop, length, arith, Option, Some, None, is_none, is_some}
+use Rattle.std.proofs.lemmas.Bool.{and_from, and_left, and_right, or_from, or_left, or_right, lt-ltb, false_from_ne_true, true≢false, OnTrue_at, OnFalse_at, cases_Bool}
 use Rattle.std.specs.Bool.{OnTrue, OnFalse}
 use Rattle.line_splice.specs.declared.cursor.Cursor.{Cursor}
 use Rattle.line_splice.specs.Cursor.{rest}
@@ -8,18 +8,16 @@ use Rattle.lexeme_reader.specs.declared.quoted.Quote.{Quote as QuoteIn}
 use Rattle.lexeme_reader.specs.declared.quoted.Quote.TheVariants.{Single, Double}
 use Rattle.lexeme_reader.specs.Quotes.{quote_byte, other_quote}
 use Rattle.lexeme_reader.specs.Fronts.{line}
-use Rattle.scan_model.specs.declared.token.Kind.{Kind}
 use Rattle.scan_model.specs.declared.token.Kind.TheVariants.{Header, Char, Str, Stray}
 use Rattle.scan_model.specs.declared.token.Tok.{Tok}
 use Rattle.scan_model.specs.Spliced.{Spot}
-use Rattle.scan_model.specs.Spelling.{first, is_start, is_header, is_quoted, opens, opens_raw, after_quoted, longest}
-use Rattle.scan_model.specs.Tokens.{Lexeme, cut, wants_header, is_token, kind_of, is_open, is_lone_less, raw_lexeme, lexeme}
+use Rattle.scan_model.specs.Spelling.{first, is_header, is_quoted, opens, opens_raw, after_quoted, longest}
+use Rattle.scan_model.specs.Tokens.{cut, wants_header, is_open, is_lone_less, raw_lexeme, lexeme}
 use Rattle.scan_model.proofs.LongestLemmas.{longest_le}
 use Rattle.pp_lexer.specs.Reads.{IsAhead, GivesShown, unquoted, not_raw}
 use Rattle.pp_lexer.specs.Lexemes.{literal_kind}
-use Rattle.pp_lexer.proofs.ClassLemmas.{begins_word}
 use Rattle.pp_lexer.proofs.UnquotedLemmas.{lone_first, less_word, token_chosen, line_ahead, shown_cut}
-use Rattle.pp_lexer.proofs.QuoteLemmas.{Quote, single, double, opened_first, quoted_some, char_token, char_kind, str_token, str_kind}
+use Rattle.pp_lexer.proofs.QuoteLemmas.{single, double, opened_first, quoted_some, char_token, char_kind, str_token, str_kind}
 
 pub header_rule : (text : List ℕ) (before : List Tok) (spots : List Spot) → wants_header before ≡ true → 0 < longest is_header (line spots)
     → lexeme text before spots ≡ cut Header (longest is_header (line spots)) spots

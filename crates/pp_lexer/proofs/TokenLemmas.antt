@@ -1,5 +1,5 @@
 -- From the lexeme to the token.
-use Rattle.std.proofs.Common.{◌≡◌, ℕ, suc, ◌<◌, ◌≤◌, Bool, true, false, cond, ◌==◌, ◌||◌, not, nat_lt, inl, inr, List, [], ◌∷◌, refl, ap, sym, ◌∙◌, length, arith, Some, None}
+use Rattle.std.proofs.Common.{◌≡◌, ℕ, suc, ◌<◌, Bool, true, false, ◌==◌, ◌||◌, not, nat_lt, inl, inr, List, [], ◌∷◌, refl, ap, sym, ◌∙◌, length, arith, Some, None}
 use Rattle.std.proofs.lemmas.Bool.{cases_Bool, lt-ltb, ltb-false}
 use Rattle.lexeme_reader.specs.Fronts.{line}
 use Rattle.scan_model.specs.declared.token.Kind.{Kind}

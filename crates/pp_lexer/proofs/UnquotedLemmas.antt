@@ -1,18 +1,18 @@
 -- The token where no quote opens, by what stands first.
-use Rattle.std.proofs.Common.{◌≡◌, ◌≢◌, ℕ, zero, suc, ◌+◌, ◌-◌, ◌<◌, ◌≤◌, Bool, true, false, cond, ◌==◌, ◌&&◌, ◌||◌, nat_eq, nat_lt, List, [], ◌∷◌, refl, inl, inr, ap, sym, ◌∙◌, take, drop, length, length-drop, slice_index, arith, codes}
-use Rattle.std.proofs.lemmas.Bool.{and_parts, lt-ltb, le-ltb, ltb-true, ltb-false, eqb-true, false_from_ne_true, true≢false, cases_Bool, cond_both}
+use Rattle.std.proofs.Common.{◌≡◌, ℕ, ◌-◌, ◌<◌, ◌≤◌, Bool, true, false, cond, ◌==◌, ◌&&◌, ◌||◌, nat_eq, nat_lt, List, [], ◌∷◌, refl, inl, inr, ap, sym, ◌∙◌, take, drop, length, length-drop, slice_index, arith, codes}
+use Rattle.std.proofs.lemmas.Bool.{and_parts, lt-ltb, ltb-true, ltb-false, eqb-true, false_from_ne_true, true≢false, cases_Bool, cond_both}
 use Rattle.std.specs.List.{starts_with}
 use Rattle.std.specs.Char.{is_ascii_digit}
 use lib.Pointwise.{pointwise}
 use Rattle.line_splice.specs.declared.cursor.Cursor.{Cursor}
 use Rattle.line_splice.specs.Cursor.{rest}
 use Rattle.lexeme_reader.specs.Fronts.{line, character_len}
-use Rattle.lexeme_reader.proofs.SpotLemmas.{bytes-take, bytes-drop}
+use Rattle.lexeme_reader.proofs.SpotLemmas.{bytes-take}
 use Rattle.scan_model.specs.declared.token.Kind.{Kind}
 use Rattle.scan_model.specs.declared.token.Kind.TheVariants.{Ident, Number, Punct, Stray}
 use Rattle.scan_model.specs.Spliced.{Spot}
 use Rattle.scan_model.specs.Spelling.{first, is_start, is_name, is_number, is_alternative, is_one_of, punctuators, longest}
-use Rattle.scan_model.specs.Tokens.{Lexeme, bytes, cut, is_token, kind_of, is_lone_less, is_character, rest_of_line}
+use Rattle.scan_model.specs.Tokens.{Lexeme, bytes, cut, is_token, kind_of, is_lone_less, is_character}
 use Rattle.scan_model.proofs.RestLemmas.{take-rest_of_line}
 use Rattle.scan_model.proofs.LongestLemmas.{longest_le, longest_passes}
 use Rattle.pp_lexer.specs.Reads.{passed, IsAhead, GivesShown, mark_len, unquoted}
@@ -31,8 +31,7 @@ line_ahead at n new some le is =
     let on_line = line_le s in
     let within : length (line s) < length s = line_is_within at (λ e. let z : length s ≡ 0 = ap length e in omega (arith, some, on_line, z)) in
     let len : length new ≡ length (drop n s) = ap length is in
-    let count : length s - length new ≡ n = omega (arith, len, le, within, length-drop n s) in
-    (
+    let count : length s - length new ≡ n = omega (arith, len, le, within, length-drop n s) in (
       (λ e. let z : length new ≡ 0 = ap length e in absurd (omega (arith, z, len, le, within, length-drop n s)), is ∙ ap (λ k. drop k s) (sym count)),
       ap (λ k. take k s) count,
     )

@@ -1,13 +1,12 @@
 -- How what the lexer's functions return stands to the definitions.
 use lib.Pointwise.{pointwise}
-use Rattle.std.specs.Prelude.{◌≡◌, nat_eq, if◌then◌else◌, nat_lt, ◌-◌, take, drop, length, ℕ, Bool, ◌⊎◌, true, false, slice_index, ◌&&◌, ◌||◌, ◌==◌, List, [], ◌∷◌, Option, Some, None}
-use Rattle.std.specs.Char.{is_ascii_digit}
+use Rattle.std.specs.Prelude.{◌≡◌, nat_eq, if◌then◌else◌, nat_lt, ◌-◌, take, drop, length, ℕ, Bool, true, false, not, ◌&&◌, ◌||◌, ◌==◌, List, [], ◌∷◌, Option, Some, None}
 use Rattle.scan_model.specs.declared.token.Kind.{Kind}
 use Rattle.scan_model.specs.declared.token.Kind.TheVariants.{Punct, Stray}
 use Rattle.scan_model.specs.declared.token.Tok.{Tok}
-use Rattle.scan_model.specs.Spelling.{is_continue, is_blank, is_one_of, punctuators, longest}
+use Rattle.scan_model.specs.Spelling.{is_one_of, punctuators, longest}
 use Rattle.scan_model.specs.Spliced.{Spot}
-use Rattle.scan_model.specs.Tokens.{Lexeme, bytes, cut, after_blanks, is_token, kind_of, is_open, is_lone_less, lexeme, next_token, wants_header}
+use Rattle.scan_model.specs.Tokens.{Lexeme, bytes, cut, after_blanks, is_token, kind_of, is_open, is_lone_less, next_token, wants_header}
 use Rattle.scan_model.specs.Lines.{tok}
 use Rattle.lexeme_reader.specs.Fronts.{line, character_len}
 
@@ -65,3 +64,7 @@ unquoted spots =
 -- the token that stands here where neither a header name is wanted nor a raw string opens
 abbrev pub not_raw : List Spot → Lexeme
 not_raw spots = if is_open (line spots) then cut Stray (length (line spots)) spots else unquoted spots
+
+-- neither a backslash nor in a newline, so that phase 2 leaves the byte as it is
+abbrev pub shows_itself : ℕ → Bool
+shows_itself c = not (c == 92 || c == 13 || c == 10)

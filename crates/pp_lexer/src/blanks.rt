@@ -93,8 +93,8 @@ fn pass_blank(at: &mut Cursor<'_>) -> bool
     }
 }
 
-// Passes the white space, other than newlines, and the comments that stand here ([lex.comment]). The answer says
-// whether there were any.
+/// Passes the white space, other than newlines, and the comments that stand here ([lex.comment]). The answer says
+/// whether there were any. No memory is taken.
 pub fn pass_blanks(at: &mut Cursor<'_>) -> bool
     ensures text { text_of at.new ≡ text_of at.old }
     ensures rest { rest at.new ≡ after_blanks (rest at.old) }

@@ -38,7 +38,11 @@ fn first_two(toks: &[Tok]) -> &[Tok]
 fn last_two(toks: &[Tok]) -> &[Tok]
     ensures { result.now ≡ drop (length toks.now - 2) toks.now }
 {
-    if toks.len() > 2 { &toks[toks.len() - 2..] } else { toks }
+    if toks.len() > 2 {
+        &toks[toks.len() - 2..]
+    } else {
+        toks
+    }
 }
 
 // Whether after these tokens of a line a header name is tried first ([lex.header]): after `#include`, after a leading

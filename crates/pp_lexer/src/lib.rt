@@ -10,11 +10,11 @@ mod passed;
 mod passing;
 mod plain;
 mod spelled;
-
 mod tokens;
 mod unquoted;
 
 pub use blanks::pass_blanks;
+pub use lexeme::{Found, Spelling, pass_lexeme};
 pub use logical_lines::lines;
 pub use passing::pass_token;
 pub use plain::first_not_plain;

@@ -2,6 +2,8 @@ ghost use Rattle.std.specs.Prelude.{◌≡◌, ◌≤◌, ◌-◌, ◌++◌, len
 ghost use Rattle.line_splice.specs.Cursor.{text_of, rest};
 ghost use Rattle.lexeme_reader.specs.Raws as raws;
 ghost use Rattle.scan_model.specs.Tokens.{bytes};
+ghost use Rattle.std.specs.List.{list_all};
+ghost use Rattle.pp_lexer.specs.Reads.{passed, IsAhead, shows_itself};
 ghost use Rattle.pp_lexer.specs.Lexemes.{IsSpelled, spelling_of, FitsBetween};
 
 use crate::lexeme::{Found, Spelling};
@@ -18,6 +20,42 @@ fn push_slice(text: &mut Vec<u8>, more: &[u8]) -> Result<(), NoMemory>
         Ok(()) => Ok(()),
         Err(_) => Err(NoMemory),
     }
+}
+
+fn shows_itself(byte: u8) -> bool
+    ensures { result ≡ shows_itself byte }
+{
+    !((byte == b'\\') | (byte == b'\r') | (byte == b'\n'))
+}
+
+// Whether the bytes show as they are written: no splice, and no newline of two bytes, can be among them.
+fn show_as_written(written: &[u8]) -> bool
+    ensures { result ≡ list_all shows_itself written.now }
+{
+    written.iter().all(|byte| shows_itself(*byte))
+}
+
+// Adds what shows between the two cursors over the text, as one slice where it is written so.
+fn push_shown(
+    out: &mut Vec<u8>,
+    text: &[u8],
+    from: &Cursor<'_>,
+    to: &Cursor<'_>,
+) -> Result<(), NoMemory>
+    requires from { text_of from.now ≡ text.now }
+    requires to { text_of to.now ≡ text.now }
+    requires ahead { IsAhead (rest from.now) (rest to.now) }
+    ensures { OnOk result (out.new.items ≡ out.old.items ++ bytes (passed (rest from.now) (rest to.now))) }
+{
+    let start = from.raw_from();
+    let end = to.raw_from();
+    if start <= end && end <= text.len() {
+        let written = &text[start..end];
+        if show_as_written(written) {
+            return push_slice(out, written);
+        }
+    }
+    push_passed(out, from, to)
 }
 
 // Adds the spelling of a raw string: what shows in front, the inside as it is written, and what shows of the suffix.
@@ -52,7 +90,7 @@ pub fn spelled(
 {
     let mut out = Vec::new(alloc);
     match found.spelling {
-        Spelling::Shown => push_passed(&mut out, from, to)?,
+        Spelling::Shown => push_shown(&mut out, text, from, to)?,
         Spelling::Raw(parts) => push_raw(&mut out, text, from, parts, to)?,
     }
     Ok(out)

@@ -6,7 +6,9 @@ ghost use Rattle.pp_lexer.specs.Reads.{GivesShown, IsAhead, unquoted};
 
 use crate::marks::mark_len;
 use crate::passed::passed_alternative;
-use lexeme_reader::{begins_name, begins_number, pass_bytes, pass_character, pass_name, pass_number};
+use lexeme_reader::{
+    begins_name, begins_number, pass_bytes, pass_character, pass_name, pass_number,
+};
 use line_splice::Cursor;
 use scan_model::Kind;
 

@@ -1,10 +1,9 @@
-use Rattle.std.proofs.Common.{◌≡◌, ◌≢◌, ◌∙◌, ◌+◌, ◌≤◌, ◌<◌, ap, sym, subst, inl, inr, drop, take, length, length-drop, Some, None, arith, ℕ}
+use Rattle.std.proofs.Common.{◌≡◌, ◌∙◌, ◌+◌, ◌≤◌, ◌<◌, ap, sym, subst, inl, inr, drop, length, length-drop, Some, arith, ℕ}
 use Rattle.std.proofs.lemmas.List.{drop-drop}
 use Rattle.std.proofs.Math.ListN.{length-set}
 use Rattle.std.specs.Str.{IsUtf8}
 use Rattle.line_splice.specs.Cursor.{rest}
 use Rattle.scan_model.specs.Spliced.{byte_at}
-use Rattle.scan_model.specs.Tokens.{bytes}
 use Rattle.lexeme_reader.proofs.SpotLemmas.{byte_at-none}
 use Rattle.lexeme_reader.proofs.CharacterLemmas.{no_character, character_here, front_more, none_more}
 use Rattle.lexeme_reader.proofs.character.encoded_character.Goals as goal

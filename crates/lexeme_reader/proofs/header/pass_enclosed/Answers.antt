@@ -1,12 +1,12 @@
-use Rattle.std.proofs.Common.{◌≡◌, ◌≤◌, ◌∙◌, ap, sym, nat_lt, drop, length, arith}
-use Rattle.std.proofs.lemmas.Bool.{lt-ltb, MatchBool-at_true, MatchBool-at_false}
+use Rattle.std.proofs.Common.{◌∙◌, ap, sym, nat_lt, drop, arith}
+use Rattle.std.proofs.lemmas.Bool.{lt-ltb}
 use Rattle.line_splice.specs.Cursor.{rest}
 use Rattle.scan_model.specs.Spelling.{is_header, longest}
 use Rattle.scan_model.specs.Tokens.{bytes}
 use Rattle.lexeme_reader.specs.Fronts.{line}
 use Rattle.lexeme_reader.proofs.SpotLemmas.{length-bytes}
 use Rattle.lexeme_reader.proofs.LineLemmas.{length-rest_of_line}
-use Rattle.lexeme_reader.proofs.HeaderLemmas.{Enclosed, enclosed_empty, enclosed_open, enclosed_found, enclosed_some}
+use Rattle.lexeme_reader.proofs.HeaderLemmas.{enclosed_empty, enclosed_open, enclosed_found, enclosed_some}
 use Rattle.lexeme_reader.proofs.header.pass_enclosed.Goals as goal
 
 pub returns-then-second_byte-close-clause-value : goal.returns-then-second_byte-close-clause-value

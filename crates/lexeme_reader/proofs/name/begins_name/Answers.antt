@@ -1,4 +1,4 @@
-use Rattle.std.proofs.Common.{◌∙◌, sym, ap, nat_lt, true, false, inl, inr}
+use Rattle.std.proofs.Common.{◌∙◌, sym, ap, nat_lt, inl, inr}
 use Rattle.std.proofs.lemmas.Bool.{cases_Bool}
 use Rattle.line_splice.specs.Cursor.{rest}
 use Rattle.scan_model.specs.Tokens.{bytes}

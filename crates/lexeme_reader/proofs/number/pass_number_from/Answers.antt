@@ -1,7 +1,5 @@
-use Rattle.std.proofs.Common.{◌∙◌, ap, sym, subst, drop}
+use Rattle.std.proofs.Common.{◌∙◌}
 use Rattle.line_splice.specs.Cursor.{rest}
-use Rattle.scan_model.specs.Tokens.{bytes}
-use Rattle.lexeme_reader.specs.Numbers.{StopsNumber}
 use Rattle.lexeme_reader.proofs.NumberLemmas.{number_more, number_smaller, number_passed}
 use Rattle.lexeme_reader.proofs.number.pass_number_from.Goals as goal
 

@@ -1,4 +1,4 @@
-use Rattle.std.proofs.Common.{◌≡◌, ◌≤◌, ◌∙◌, ap, sym, length, slice_index, arith}
+use Rattle.std.proofs.Common.{◌≡◌, ◌∙◌, ap, sym, slice_index, arith}
 use Rattle.line_splice.specs.Cursor.{rest}
 use Rattle.scan_model.specs.Spelling.{encoding_len}
 use Rattle.scan_model.specs.Tokens.{bytes}

@@ -2,7 +2,7 @@ use Rattle.std.proofs.Common.{◌∙◌, ap, sym, not, ◌&&◌, nat_eq, Some}
 use Rattle.line_splice.specs.Cursor.{rest}
 use Rattle.scan_model.specs.Spelling.{after_items}
 use Rattle.lexeme_reader.specs.Fronts.{line}
-use Rattle.lexeme_reader.proofs.AlongLemmas.{along_none, along_more, along_end, line-newline, line-none}
+use Rattle.lexeme_reader.proofs.AlongLemmas.{along_more, along_end, line-newline, line-none}
 use Rattle.lexeme_reader.proofs.QuotedLemmas.{items_close, items_more, items_end}
 use Rattle.lexeme_reader.proofs.quoted.pass_items.Goals as goal
 

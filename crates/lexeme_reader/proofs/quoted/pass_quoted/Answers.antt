@@ -1,4 +1,4 @@
-use Rattle.std.proofs.Common.{◌≡◌, ◌≤◌, ◌+◌, ◌∙◌, ap, sym, subst, length, length-drop, drop, arith}
+use Rattle.std.proofs.Common.{◌≡◌, ◌+◌, ◌∙◌, ap, subst, length, length-drop, drop, arith}
 use Rattle.std.proofs.lemmas.Bool.{MatchBool-at_true, MatchBool-at_false, OnTrue_from, OnFalse_from}
 use Rattle.std.proofs.lemmas.List.{drop-drop}
 use Rattle.line_splice.specs.Cursor.{rest}

@@ -1,4 +1,4 @@
-use Rattle.std.proofs.Common.{◌≡◌, ◌≤◌, ◌∙◌, ap, sym, refl, subst, drop, length, Some, arith}
+use Rattle.std.proofs.Common.{◌≡◌, ◌≤◌, ◌∙◌, ap, sym, refl, drop, length, Some, arith}
 use Rattle.line_splice.specs.Cursor.{text_of, rest}
 use Rattle.scan_model.specs.Spelling.{after_raw}
 use Rattle.lexeme_reader.proofs.RawStringLemmas.{suffix_is, closed_raw}

@@ -1,9 +1,8 @@
-use Rattle.std.proofs.Common.{◌≡◌, ◌≤◌, ◌-◌, ◌+◌, ◌∙◌, ap, sym, subst, take, drop, length, true, false, arith}
+use Rattle.std.proofs.Common.{◌≡◌, ◌+◌, ◌∙◌, ap, sym, subst, drop, length, true, false, arith}
 use Rattle.std.proofs.lemmas.List.{take_rest}
 use Rattle.line_splice.specs.Cursor.{text_of, rest}
 use Rattle.scan_model.specs.Spelling.{encoding_len, is_delimited}
-use Rattle.scan_model.specs.Tokens.{Lexeme, bytes, raw_lexeme}
-use Rattle.lexeme_reader.specs.declared.raw.RawSpelling.TheVariants.{Shown, Written}
+use Rattle.scan_model.specs.Tokens.{Lexeme, bytes}
 use Rattle.lexeme_reader.specs.Raws.{ContinuesRaw}
 use Rattle.lexeme_reader.proofs.RawStringLemmas.{raw_front, raw_bad, raw_parts}
 use Rattle.lexeme_reader.proofs.raw.pass_raw.Goals as goal

@@ -1,14 +1,13 @@
-use Rattle.std.proofs.Common.{◌≡◌, ◌≤◌, ◌<◌, ◌+◌, ◌∙◌, ap, sym, drop, length, length-drop, Some, arith}
+use Rattle.std.proofs.Common.{◌≡◌, ◌+◌, ◌∙◌, ap, sym, drop, length, length-drop, Some, arith}
 use Rattle.std.proofs.lemmas.List.{drop-drop}
 use Rattle.line_splice.specs.Cursor.{text_of, rest}
 use Rattle.scan_model.specs.Spliced.{byte_at, place_at}
 use Rattle.scan_model.specs.Spelling.{encoding_len}
 use Rattle.scan_model.specs.Tokens.{bytes, written_after}
-use Rattle.lexeme_reader.specs.Fronts.{line}
 use Rattle.lexeme_reader.proofs.SpotLemmas.{length-bytes}
 use Rattle.lexeme_reader.proofs.LineLemmas.{length-rest_of_line}
 use Rattle.lexeme_reader.proofs.PlaceLemmas.{place_inside, written_is}
-use Rattle.lexeme_reader.proofs.RawStringLemmas.{RawFront, raw_front}
+use Rattle.lexeme_reader.proofs.RawStringLemmas.{raw_front}
 use Rattle.lexeme_reader.proofs.raw.pass_raw_quote.Goals as goal
 
 pub pass_bytes-requires : goal.pass_bytes-requires

@@ -1,4 +1,4 @@
-use Rattle.std.proofs.Common.{◌≡◌, ◌≤◌, ◌+◌, ◌-◌, ◌∙◌, ap, sym, take, drop, length, length-drop, Some, arith, ℕ}
+use Rattle.std.proofs.Common.{◌≡◌, ◌+◌, ◌-◌, ◌∙◌, ap, take, drop, length, length-drop, Some, arith}
 use Rattle.std.proofs.lemmas.List.{drop-drop, take_rest}
 use Rattle.lexeme_reader.proofs.RawStringLemmas.{raw_after}
 use Rattle.lexeme_reader.proofs.raw.raw_end.Goals as goal

@@ -1,4 +1,4 @@
-use Rattle.std.proofs.Common.{◌≡◌, ◌∙◌, ◌+◌, ◌≤◌, ◌-◌, ◌&&◌, ap, sym, nat_eq, length, drop, length-drop, length-take, true, false, arith, ℕ}
+use Rattle.std.proofs.Common.{◌≡◌, ◌∙◌, ◌-◌, ap, sym, nat_eq, length, drop, length-drop, arith}
 use Rattle.std.proofs.lemmas.List.{take_rest}
 use Rattle.std.specs.List.{starts_with}
 use Rattle.lexeme_reader.proofs.RawLemmas.{closing, close_step, close_here, close_none}

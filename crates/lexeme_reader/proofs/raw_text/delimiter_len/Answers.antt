@@ -1,4 +1,4 @@
-use Rattle.std.proofs.Common.{◌≡◌, ◌∙◌, sym, arith}
+use Rattle.std.proofs.Common.{◌∙◌, sym, arith}
 use Rattle.lexeme_reader.proofs.DelimiterLemmas.{delimiter_found, delimiter_bad, delimiter_long}
 use Rattle.lexeme_reader.proofs.raw_text.delimiter_len.Goals as goal
 

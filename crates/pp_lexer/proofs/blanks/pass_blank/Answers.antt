@@ -1,4 +1,4 @@
-use Rattle.std.proofs.Common.{◌≡◌, ◌∙◌, ap, sym, drop, Some, List}
+use Rattle.std.proofs.Common.{◌∙◌, ap, sym, drop, Some, List}
 use Rattle.line_splice.specs.Cursor.{rest}
 use Rattle.scan_model.specs.Spliced.{Spot}
 use Rattle.scan_model.specs.Tokens.{after_comment}

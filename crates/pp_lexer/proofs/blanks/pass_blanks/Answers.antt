@@ -1,7 +1,6 @@
-use Rattle.std.proofs.Common.{◌≡◌, ◌∙◌, ◌<◌, ap, sym, length, nat_lt, arith}
+use Rattle.std.proofs.Common.{◌∙◌, ◌<◌, ap, sym, length, nat_lt, arith}
 use Rattle.std.proofs.lemmas.Bool.{lt-ltb}
 use Rattle.line_splice.specs.Cursor.{rest}
-use Rattle.scan_model.specs.Tokens.{after_blanks}
 use Rattle.pp_lexer.proofs.CommentLemmas.{blanks_more, blanks_stop}
 use Rattle.pp_lexer.proofs.blanks.pass_blanks.Goals as goal
 

@@ -1,4 +1,4 @@
-use Rattle.std.proofs.Common.{◌∙◌, ap, sym}
+use Rattle.std.proofs.Common.{◌∙◌, sym}
 use Rattle.line_splice.specs.Cursor.{text_of, rest}
 use Rattle.scan_model.specs.declared.token.Kind.TheVariants.{Header}
 use Rattle.scan_model.specs.Tokens.{lexeme}

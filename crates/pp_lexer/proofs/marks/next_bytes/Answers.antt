@@ -1,10 +1,10 @@
-use Rattle.std.proofs.Common.{◌≡◌, ◌≤◌, ◌+◌, ◌∷◌, [], ap, sym, ◌∙◌, take, drop, length, arith}
+use Rattle.std.proofs.Common.{◌≡◌, ◌∷◌, ap, sym, ◌∙◌, drop, arith}
 use Rattle.std.specs.Prelude.{unwrap_or}
 use Rattle.std.proofs.lemmas.List.{drop-drop}
 use Rattle.std.proofs.lemmas.Grind.{common_steps}
 use Rattle.line_splice.specs.Cursor.{rest}
 use Rattle.lexeme_reader.specs.Fronts.{line}
-use Rattle.pp_lexer.proofs.MarkLemmas.{line_le, line_stop, line_more, more_left, all_taken, set_more, drop_within}
+use Rattle.pp_lexer.proofs.MarkLemmas.{line_le, line_stop, line_more, all_taken, set_more, drop_within}
 use Rattle.pp_lexer.proofs.marks.next_bytes.Goals as goal
 
 pub returns-then-byte-eq10-clause-within : goal.returns-then-byte-eq10-clause-within

@@ -1,4 +1,3 @@
-use Rattle.std.proofs.Common.{◌∙◌, ap, sym}
 use Rattle.line_splice.specs.Cursor.{rest}
 use Rattle.pp_lexer.proofs.RawLemmas.{suffix_ahead}
 use Rattle.pp_lexer.proofs.spelled.push_raw.Goals as goal

@@ -1,5 +1,5 @@
-use Rattle.std.proofs.Common.{◌≡◌, ◌<◌, ◌∙◌, ap, sym, refl, ◌||◌, nat_lt, not, length}
-use Rattle.std.proofs.lemmas.Bool.{not-true, not-false, ltb-true}
+use Rattle.std.proofs.Common.{◌<◌, ◌∙◌, ap, sym, refl, ◌||◌, nat_lt, length}
+use Rattle.std.proofs.lemmas.Bool.{ltb-true}
 use Rattle.line_splice.specs.Cursor.{rest}
 use Rattle.lexeme_reader.specs.Fronts.{line}
 use Rattle.scan_model.specs.Spliced.{line_at}
@@ -25,8 +25,7 @@ returns-clause-token c =
     let left = rest c.pass_lexeme-found.new.at in
     let bytes = spelling_of text found.spelling at left in
     let some : 0 < length (line at) = ltb-true 0 (length (line at)) (sym c.is_on_line.ensures ∙ c.if-not-is_on_line.false) in
-    let whole = c.pass_blanks.ensures.text ∙ c.requires in
-    (
+    let whole = c.pass_blanks.ensures.text ∙ c.requires in (
       record { kind = found.kind; text = bytes; left = left },
       token_some text before s at _ c.pass_blanks.ensures.rest some (ap (λ t. lexeme t before at) (sym whole) ∙ c.pass_lexeme-found.ensures.lexeme
           ∙ ap (λ t. record { kind = found.kind; text = spelling_of t found.spelling at left; left = left }) whole),

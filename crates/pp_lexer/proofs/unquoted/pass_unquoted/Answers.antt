@@ -1,4 +1,4 @@
-use Rattle.std.proofs.Common.{◌≡◌, ◌<◌, ◌≤◌, ◌∙◌, ap, sym, length, arith}
+use Rattle.std.proofs.Common.{◌≡◌, ◌≤◌, ◌∙◌, ap, sym, length, arith}
 use Rattle.line_splice.specs.Cursor.{rest}
 use Rattle.lexeme_reader.specs.Fronts.{line, character_len}
 use Rattle.scan_model.specs.declared.token.Kind.TheVariants.{Number, Punct, Stray}

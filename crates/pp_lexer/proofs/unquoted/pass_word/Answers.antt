@@ -1,11 +1,9 @@
-use Rattle.std.proofs.Common.{◌≡◌, ◌<◌, ◌∙◌, refl, ap, sym, cond, true, false, take, length, arith}
+use Rattle.std.proofs.Common.{◌≡◌, ◌∙◌, refl, ap, sym, true, false, take, arith}
 use Rattle.line_splice.specs.Cursor.{rest}
 use Rattle.lexeme_reader.specs.Fronts.{line}
-use Rattle.scan_model.specs.declared.token.Kind.TheVariants.{Punct, Ident}
 use Rattle.scan_model.specs.Spelling.{is_name, is_alternative, longest}
 use Rattle.scan_model.specs.Tokens.{bytes}
 use Rattle.scan_model.proofs.LongestLemmas.{longest_le}
-use Rattle.pp_lexer.specs.Reads.{passed}
 use Rattle.pp_lexer.proofs.UnquotedLemmas.{line_ahead, line_bytes}
 use Rattle.pp_lexer.proofs.unquoted.pass_word.Goals as goal
 
