@@ -1,4 +1,3 @@
-pub mod PlainLemmas
 pub mod TokenLemmas
 pub mod LinesLemmas
 pub mod CommentLemmas

@@ -8,7 +8,6 @@ mod logical_lines;
 mod marks;
 mod passed;
 mod passing;
-mod plain;
 mod spelled;
 mod tokens;
 mod unquoted;
@@ -17,7 +16,6 @@ pub use blanks::pass_blanks;
 pub use lexeme::{Found, Spelling, pass_lexeme};
 pub use logical_lines::lines;
 pub use passing::pass_token;
-pub use plain::first_not_plain;
 pub use tokens::token;
 
 #[cfg(test)]

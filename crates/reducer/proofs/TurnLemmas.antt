@@ -30,7 +30,7 @@ pub line_turn : (text : List ℕ) (lines more : List Line) (before : List Tok) (
 line_turn text lines more before start s left at last so_far h line_is add next =
     let line = filter is_directive (closed before (line_at text left)) in
     let here : kept_from text before s ≡ line ++ kept_from text [] (drop 1 left) =
-        subst (λ u. kept_from text before s ≡ filter is_directive (closed before (line_at text u)) ++ kept_from text [] (drop 1 u)) (sym h.1) (kept_from-newline text before s h.0) in
+    subst (λ u. kept_from text before s ≡ filter is_directive (closed before (line_at text u)) ++ kept_from text [] (drop 1 u)) (sym h.1) (kept_from-newline text before s h.0) in
     ap (λ u. u ++ kept_from text [] at) (add ∙ ap (λ n. lines ++ filter is_directive (closed before n)) line_is) ∙ ap (λ u. (lines ++ line) ++ kept_from text [] u) next
     ∙ append_assoc lines line (kept_from text [] (drop 1 left)) ∙ ap (λ u. lines ++ u) (sym here) ∙ ap (λ u. lines ++ u) (sym so_far)
 

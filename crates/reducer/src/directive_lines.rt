@@ -65,9 +65,7 @@ fn may_begin(toks: &[Tok]) -> bool
     match toks.len() {
         0 => true,
         1 => is_word_import(&toks[0]) || is_word_module(&toks[0]) || is_word_export(&toks[0]),
-        2 => {
-            is_word_export(&toks[0]) && (is_word_import(&toks[1]) || is_word_module(&toks[1]))
-        }
+        2 => { is_word_export(&toks[0]) && (is_word_import(&toks[1]) || is_word_module(&toks[1])) }
         _ => false,
     }
 }

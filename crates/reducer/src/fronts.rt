@@ -28,7 +28,11 @@ fn begins(at: &Cursor<'_>, word: &[u8]) -> bool
 fn may_begin_directive(at: &Cursor<'_>) -> bool
     ensures { result ≡ may_begin_directive (rest at.now) }
 {
-    begins(at, b"#") || begins(at, b"%:") || begins(at, b"import") || begins(at, b"module") || begins(at, b"export")
+    begins(at, b"#")
+        || begins(at, b"%:")
+        || begins(at, b"import")
+        || begins(at, b"module")
+        || begins(at, b"export")
 }
 
 /// Whether a token stands here that tells at a line's front that the line is no directive.

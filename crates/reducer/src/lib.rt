@@ -4,12 +4,12 @@
 mod answer;
 mod directive_lines;
 mod fronts;
-mod reduction;
 mod reduced;
+mod reduction;
 
 pub use answer::Answer;
-pub use reduction::reduce;
 pub use reduced::{LineHead, Reduced, TokView};
+pub use reduction::reduce;
 
 #[cfg(test)]
 mod tests;

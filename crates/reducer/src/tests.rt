@@ -108,7 +108,12 @@ fn directives_are_kept(rt: HostRuntime) -> Result<(), Fail> {
     reduces(&rt, alloc, b"#\n#", &[kept(1, 2, b"#"), kept(2, 3, b"#")])?;
     reduces(&rt, alloc, b"\x0B\x0C #\n", &[kept(1, 2, b"#")])?;
     reduces(&rt, alloc, b"%: define X\n", &[kept(1, 2, b"%:|define|X")])?;
-    reduces(&rt, alloc, b"%\\\n:define X\n", &[kept(1, 3, b"%:|define|X")])?;
+    reduces(
+        &rt,
+        alloc,
+        b"%\\\n:define X\n",
+        &[kept(1, 3, b"%:|define|X")],
+    )?;
     reduces(&rt, alloc, b"%:%: define\n", &[])?;
     reduces(&rt, alloc, b"## x\n", &[])
 }
@@ -118,26 +123,76 @@ fn import_lines_are_kept(rt: HostRuntime) -> Result<(), Fail> {
     let alloc = rt.alloc();
     reduces(&rt, alloc, b"import a.b;", &[kept(1, 2, b"import|a|.|b|;")])?;
     reduces(&rt, alloc, b"\rimport a;\n", &[kept(1, 2, b"import|a|;")])?;
-    reduces(&rt, alloc, b"export import a;\n", &[kept(1, 2, b"export|import|a|;")])?;
+    reduces(
+        &rt,
+        alloc,
+        b"export import a;\n",
+        &[kept(1, 2, b"export|import|a|;")],
+    )?;
     reduces(&rt, alloc, b"export import (x);\n", &[])?;
-    reduces(&rt, alloc, b"import (x);\nimport <a b>;\n", &[kept(2, 3, b"import|<a b>|;")])?;
-    reduces(&rt, alloc, b"import \"h\";\nimport :p;\n", &[kept(1, 2, b"import|\"h\"|;"), kept(2, 3, b"import|:|p|;")])?;
-    reduces(&rt, alloc, b"import <a\nimport = 3;\n", &[kept(1, 2, b"import|<|a")])?;
+    reduces(
+        &rt,
+        alloc,
+        b"import (x);\nimport <a b>;\n",
+        &[kept(2, 3, b"import|<a b>|;")],
+    )?;
+    reduces(
+        &rt,
+        alloc,
+        b"import \"h\";\nimport :p;\n",
+        &[kept(1, 2, b"import|\"h\"|;"), kept(2, 3, b"import|:|p|;")],
+    )?;
+    reduces(
+        &rt,
+        alloc,
+        b"import <a\nimport = 3;\n",
+        &[kept(1, 2, b"import|<|a")],
+    )?;
     reduces(&rt, alloc, b"import\n<a>;\n", &[])?;
     reduces(&rt, alloc, b"import and;\nimport 'c';\n", &[])?;
-    reduces(&rt, alloc, b"import L\"x\";\n", &[kept(1, 2, b"import|L\"x\"|;")])?;
-    reduces(&rt, alloc, b"import \xC3\xA9;\nimport \xFF;\n", &[kept(1, 2, b"import|\xC3\xA9|;")])?;
+    reduces(
+        &rt,
+        alloc,
+        b"import L\"x\";\n",
+        &[kept(1, 2, b"import|L\"x\"|;")],
+    )?;
+    reduces(
+        &rt,
+        alloc,
+        b"import \xC3\xA9;\nimport \xFF;\n",
+        &[kept(1, 2, b"import|\xC3\xA9|;")],
+    )?;
     reduces(&rt, alloc, b"import a\\", &[kept(1, 2, b"import|a|\\")])
 }
 
 #[test]
 fn module_lines_are_kept(rt: HostRuntime) -> Result<(), Fail> {
     let alloc = rt.alloc();
-    reduces(&rt, alloc, b"export module m:p;\n", &[kept(1, 2, b"export|module|m|:|p|;")])?;
+    reduces(
+        &rt,
+        alloc,
+        b"export module m:p;\n",
+        &[kept(1, 2, b"export|module|m|:|p|;")],
+    )?;
     reduces(&rt, alloc, b"export class c;\n", &[])?;
-    reduces(&rt, alloc, b"export\nmodule m;\n", &[kept(2, 3, b"module|m|;")])?;
-    reduces(&rt, alloc, b"module = 3;\nmodule;\n", &[kept(2, 3, b"module|;")])?;
-    reduces(&rt, alloc, b"module :private;\nmodule(x);\n", &[kept(1, 2, b"module|:|private|;")])?;
+    reduces(
+        &rt,
+        alloc,
+        b"export\nmodule m;\n",
+        &[kept(2, 3, b"module|m|;")],
+    )?;
+    reduces(
+        &rt,
+        alloc,
+        b"module = 3;\nmodule;\n",
+        &[kept(2, 3, b"module|;")],
+    )?;
+    reduces(
+        &rt,
+        alloc,
+        b"module :private;\nmodule(x);\n",
+        &[kept(1, 2, b"module|:|private|;")],
+    )?;
     reduces(&rt, alloc, b"modules x;\nimportant y;\nexported z;\n", &[])?;
     reduces(&rt, alloc, b"module\nx;\n", &[])
 }
@@ -145,47 +200,154 @@ fn module_lines_are_kept(rt: HostRuntime) -> Result<(), Fail> {
 #[test]
 fn comments_and_splices_may_hold_newlines(rt: HostRuntime) -> Result<(), Fail> {
     let alloc = rt.alloc();
-    reduces(&rt, alloc, b"/* a\nb */ #define X\n", &[kept(2, 3, b"#|define|X")])?;
+    reduces(
+        &rt,
+        alloc,
+        b"/* a\nb */ #define X\n",
+        &[kept(2, 3, b"#|define|X")],
+    )?;
     reduces(&rt, alloc, b"int i; /* #define\n */ import a;\n", &[])?;
-    reduces(&rt, alloc, b"int i; /*\n*/\nimport a;\n", &[kept(3, 4, b"import|a|;")])?;
-    reduces(&rt, alloc, b"import a; /*\n*/ import b;\nimport c;\n", &[kept(1, 3, b"import|a|;|import|b|;"), kept(3, 4, b"import|c|;")])?;
-    reduces(&rt, alloc, b"// import a; \\\nimport b;\nimport c;\n", &[kept(3, 4, b"import|c|;")])?;
+    reduces(
+        &rt,
+        alloc,
+        b"int i; /*\n*/\nimport a;\n",
+        &[kept(3, 4, b"import|a|;")],
+    )?;
+    reduces(
+        &rt,
+        alloc,
+        b"import a; /*\n*/ import b;\nimport c;\n",
+        &[
+            kept(1, 3, b"import|a|;|import|b|;"),
+            kept(3, 4, b"import|c|;"),
+        ],
+    )?;
+    reduces(
+        &rt,
+        alloc,
+        b"// import a; \\\nimport b;\nimport c;\n",
+        &[kept(3, 4, b"import|c|;")],
+    )?;
     reduces(&rt, alloc, b"/* unclosed\nimport a;\n", &[])?;
     reduces(&rt, alloc, b"#def\\\nine X\n", &[kept(1, 3, b"#|define|X")])?;
     reduces(&rt, alloc, b"imp\\\nort a;\n", &[kept(1, 3, b"import|a|;")])?;
-    reduces(&rt, alloc, b"e\\\nxport mod\\\nule m;\n", &[kept(1, 4, b"export|module|m|;")])?;
+    reduces(
+        &rt,
+        alloc,
+        b"e\\\nxport mod\\\nule m;\n",
+        &[kept(1, 4, b"export|module|m|;")],
+    )?;
     reduces(&rt, alloc, b"\\\nimport a;\n", &[kept(2, 3, b"import|a|;")])?;
-    reduces(&rt, alloc, b"\xEF\xBB\xBFimport a;\r\nimport b;\r\n", &[kept(1, 2, b"import|a|;"), kept(2, 3, b"import|b|;")])
+    reduces(
+        &rt,
+        alloc,
+        b"\xEF\xBB\xBFimport a;\r\nimport b;\r\n",
+        &[kept(1, 2, b"import|a|;"), kept(2, 3, b"import|b|;")],
+    )
 }
 
 #[test]
 fn quotes_end_with_their_line(rt: HostRuntime) -> Result<(), Fail> {
     let alloc = rt.alloc();
-    reduces(&rt, alloc, b"#if 0\ndon't /*\n#endif\nimport a;\n", &[kept(1, 2, b"#|if|0"), kept(3, 4, b"#|endif"), kept(4, 5, b"import|a|;")])?;
-    reduces(&rt, alloc, b"\"unclosed\nimport a;\n", &[kept(2, 3, b"import|a|;")])?;
-    reduces(&rt, alloc, b"'\\\nimport a;\nimport b;\n", &[kept(3, 4, b"import|b|;")])?;
-    reduces(&rt, alloc, b"x = 1'000'000; 'c'\nimport a;\n", &[kept(2, 3, b"import|a|;")])?;
-    reduces(&rt, alloc, b"FOOR\"(\"\nimport a;\nx = \")\";\n", &[kept(2, 3, b"import|a|;")])
+    reduces(
+        &rt,
+        alloc,
+        b"#if 0\ndon't /*\n#endif\nimport a;\n",
+        &[
+            kept(1, 2, b"#|if|0"),
+            kept(3, 4, b"#|endif"),
+            kept(4, 5, b"import|a|;"),
+        ],
+    )?;
+    reduces(
+        &rt,
+        alloc,
+        b"\"unclosed\nimport a;\n",
+        &[kept(2, 3, b"import|a|;")],
+    )?;
+    reduces(
+        &rt,
+        alloc,
+        b"'\\\nimport a;\nimport b;\n",
+        &[kept(3, 4, b"import|b|;")],
+    )?;
+    reduces(
+        &rt,
+        alloc,
+        b"x = 1'000'000; 'c'\nimport a;\n",
+        &[kept(2, 3, b"import|a|;")],
+    )?;
+    reduces(
+        &rt,
+        alloc,
+        b"FOOR\"(\"\nimport a;\nx = \")\";\n",
+        &[kept(2, 3, b"import|a|;")],
+    )
 }
 
 #[test]
 fn raw_strings_hold_newlines(rt: HostRuntime) -> Result<(), Fail> {
     let alloc = rt.alloc();
-    reduces(&rt, alloc, b"auto s = R\"x(\n#define import x\n)x\";\nimport a;\n", &[kept(4, 5, b"import|a|;")])?;
-    reduces(&rt, alloc, b"R\"(\nimport a;\n)\" R\"d(\n)\")d\"\nimport b;\n", &[kept(5, 6, b"import|b|;")])?;
-    reduces(&rt, alloc, b"u8R\"(\n#if\n)\"; LR\"(\n#else\n)\"\n#endif\n", &[kept(6, 7, b"#|endif")])?;
-    reduces(&rt, alloc, b"R\"0123456789abcdefg(\n#if\n)0123456789abcdefg\"\n", &[kept(2, 3, b"#|if")])?;
+    reduces(
+        &rt,
+        alloc,
+        b"auto s = R\"x(\n#define import x\n)x\";\nimport a;\n",
+        &[kept(4, 5, b"import|a|;")],
+    )?;
+    reduces(
+        &rt,
+        alloc,
+        b"R\"(\nimport a;\n)\" R\"d(\n)\")d\"\nimport b;\n",
+        &[kept(5, 6, b"import|b|;")],
+    )?;
+    reduces(
+        &rt,
+        alloc,
+        b"u8R\"(\n#if\n)\"; LR\"(\n#else\n)\"\n#endif\n",
+        &[kept(6, 7, b"#|endif")],
+    )?;
+    reduces(
+        &rt,
+        alloc,
+        b"R\"0123456789abcdefg(\n#if\n)0123456789abcdefg\"\n",
+        &[kept(2, 3, b"#|if")],
+    )?;
     reduces(&rt, alloc, b"R\"(\nimport a;", &[])?;
-    reduces(&rt, alloc, b"#define S \"a\\\nb\" R\"(\\\n)\" c\n", &[kept(1, 4, b"#|define|S|\"ab\"|R\"(\\\n)\"|c")])
+    reduces(
+        &rt,
+        alloc,
+        b"#define S \"a\\\nb\" R\"(\\\n)\" c\n",
+        &[kept(1, 4, b"#|define|S|\"ab\"|R\"(\\\n)\"|c")],
+    )
 }
 
 #[test]
 fn header_names_hold_slashes(rt: HostRuntime) -> Result<(), Fail> {
     let alloc = rt.alloc();
-    reduces(&rt, alloc, b"#include <a//b> // c\n", &[kept(1, 2, b"#|include|<a//b>")])?;
-    reduces(&rt, alloc, b"#include \"a\\\nb\"\n", &[kept(1, 3, b"#|include|\"ab\"")])?;
-    reduces(&rt, alloc, b"#if __has_include(<a//b>)\n", &[kept(1, 2, b"#|if|__has_include|(|<a//b>|)")])?;
-    reduces(&rt, alloc, b"x __has_include(<a//b>)\nimport a;\n", &[kept(2, 3, b"import|a|;")])
+    reduces(
+        &rt,
+        alloc,
+        b"#include <a//b> // c\n",
+        &[kept(1, 2, b"#|include|<a//b>")],
+    )?;
+    reduces(
+        &rt,
+        alloc,
+        b"#include \"a\\\nb\"\n",
+        &[kept(1, 3, b"#|include|\"ab\"")],
+    )?;
+    reduces(
+        &rt,
+        alloc,
+        b"#if __has_include(<a//b>)\n",
+        &[kept(1, 2, b"#|if|__has_include|(|<a//b>|)")],
+    )?;
+    reduces(
+        &rt,
+        alloc,
+        b"x __has_include(<a//b>)\nimport a;\n",
+        &[kept(2, 3, b"import|a|;")],
+    )
 }
 
 #[test]

@@ -17,7 +17,7 @@ returns-then-begins_text-clause-less c =
     let start = rest c.args.at.now in
     let at = rest c.pass_blanks.new.at in
     let less = first_smaller c.pass_blanks.new.at.text.now at (rest c.pass_token.new.at) c.pass_token.result (blanks_stop start at c.pass_blanks.ensures.rest)
-            (sym c.begins_text.ensures ∙ c.if-begins_text.true) c.pass_token.ensures.passed in
+    (sym c.begins_text.ensures ∙ c.if-begins_text.true) c.pass_token.ensures.passed in
     let blanks = blanks_less start at c.pass_blanks.ensures.rest in
     omega (arith, less, blanks, c.pass_line.ensures.less)
 
