@@ -50,12 +50,12 @@ returns-in-Ok-clause-end g c =
     let main : path ≡ c.args.command.now.main = search rules in
     let inside = shard_inside (IsRow g.S.Source.given_path g.S.Source.given_outcome g.S.Source.given_bytes) (asked_also path) path ss c.ask.new.self c.in_ok-opener.ensures.ok c.in_ok-opener.ensures.valid in
     rw (asked_then_kept path _ ss c.ask.new.self c.add.new.self refl c.in_ok-opener.ensures.ok c.in-Ok.ensures.ok)
-    (IsEnd-read _ c.args.command.now path (stands_for (is_some c.reading.result.1) (g.S.Source.given_outcome c.read-given.result) (g.S.Source.given_bytes c.read-given.result)) _ c.end_of_unit-end.result main
+    (IsEnd-read _ c.args.command.now path (stands_for (is_some c.reading-answer.result.1) (g.S.Source.given_outcome c.read-given.result) (g.S.Source.given_bytes c.read-given.result)) _ c.end_of_unit-end.result main
     (file_map-kept g.S.Source.given_outcome g.S.Source.given_bytes path _ (shard_number path) ss inside refl (IsUntouched-LacksPath ss path c.requires))
-    ? c.end_of_unit-end.ensures)
+    (rw (c.outcome.ensures.value, c.bytes.ensures.value) at c.reading-answer.ensures.answer) c.end_of_unit-end.ensures)
 
-pub returns-in-Err-clause-one_map : goal.returns-in-Err-clause-one_map
-returns-in-Err-clause-one_map g c =
+pub returns-clause-one_map : goal.returns-clause-one_map
+returns-clause-one_map g c =
     let path = c.of_normal-path.result in
     let ss = c.args.store.now in
     let inside = shard_inside (IsRow g.S.Source.given_path g.S.Source.given_outcome g.S.Source.given_bytes) (asked_also path) path ss c.ask.new.self c.in_ok-opener.ensures.ok c.in_ok-opener.ensures.valid in
@@ -63,8 +63,8 @@ returns-in-Err-clause-one_map g c =
     (IsOneMap-asked (IsRow g.S.Source.given_path g.S.Source.given_outcome g.S.Source.given_bytes) g.S.Source.given_path g.S.Source.given_origin path (shard_number path) ss inside (IsUntouched-new ss path c.requires)
     (rw (← c.in_ok-opener.ensures.ok) c.in_ok-opener.ensures.valid) (IsUntouched-IsOneMap g.S.Source.given_path g.S.Source.given_origin ss c.requires))
 
-pub returns-in-Err-clause-looked : goal.returns-in-Err-clause-looked
-returns-in-Err-clause-looked g c =
+pub returns-clause-looked : goal.returns-clause-looked
+returns-clause-looked g c =
     let path = c.of_normal-path.result in
     let ss = c.args.store.now in
     let main : path ≡ c.args.command.now.main = search rules in
