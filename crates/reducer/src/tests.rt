@@ -9,14 +9,14 @@ use std::test::Fail;
 
 // A line that is kept, with its tokens' spellings between bars.
 #[derive(Clone, Copy)]
-struct Kept {
+struct Want {
     line: u32,
     next: u32,
     spelled: &'static [u8],
 }
 
-fn kept(line: u32, next: u32, spelled: &'static [u8]) -> Kept {
-    Kept {
+fn kept(line: u32, next: u32, spelled: &'static [u8]) -> Want {
+    Want {
         line,
         next,
         spelled,
@@ -24,7 +24,7 @@ fn kept(line: u32, next: u32, spelled: &'static [u8]) -> Kept {
 }
 
 // The text is reduced to these lines, and they are those of all its lines that are directives.
-fn reduces(rt: &impl Abort, alloc: Global, text: &[u8], want: &[Kept]) -> Result<(), Fail> {
+fn reduces(rt: &impl Abort, alloc: Global, text: &[u8], want: &[Want]) -> Result<(), Fail> {
     if text.len() > 1000 {
         return Err("long".into());
     }
@@ -55,7 +55,7 @@ fn is_row(
     alloc: Global,
     reduced: &Reduced,
     k: u32,
-    row: Kept,
+    row: Want,
 ) -> Result<(), Fail> {
     if k >= reduced.len() {
         return Err("too few lines".into());
