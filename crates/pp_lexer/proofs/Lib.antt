@@ -1,4 +1,3 @@
-pub mod PlainLemmas
 pub mod TokenLemmas
 pub mod LinesLemmas
 pub mod CommentLemmas
@@ -16,3 +15,4 @@ pub mod RuleLemmas
 pub mod RawLemmas
 pub mod FoundLemmas
 pub mod WrittenLemmas
+pub mod PassingLemmas

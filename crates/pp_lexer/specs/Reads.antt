@@ -6,7 +6,7 @@ use Rattle.scan_model.specs.declared.token.Kind.TheVariants.{Punct, Stray}
 use Rattle.scan_model.specs.declared.token.Tok.{Tok}
 use Rattle.scan_model.specs.Spelling.{is_one_of, punctuators, longest}
 use Rattle.scan_model.specs.Spliced.{Spot}
-use Rattle.scan_model.specs.Tokens.{Lexeme, bytes, cut, after_blanks, is_token, kind_of, is_open, is_lone_less, next_token}
+use Rattle.scan_model.specs.Tokens.{Lexeme, bytes, cut, after_blanks, is_token, kind_of, is_open, is_lone_less, next_token, wants_header}
 use Rattle.scan_model.specs.Lines.{tok}
 use Rattle.lexeme_reader.specs.Fronts.{line, character_len}
 
@@ -14,6 +14,11 @@ use Rattle.lexeme_reader.specs.Fronts.{line, character_len}
 abbrev pub GivesToken : List ℕ → List Tok → List Spot → Option Tok → List Spot → Type 0
 GivesToken text before spots None left = (next_token text before spots ≡ None) × (left ≡ after_blanks spots)
 GivesToken text before spots (Some t) left = (l : Lexeme) × (next_token text before spots ≡ Some l) × (t ≡ tok text before spots l) × (left ≡ l.left)
+
+-- the token of a line on which no header name is tried is passed; where none is, a newline or the end comes first
+abbrev pub PassesToken : List ℕ → List Spot → Bool → List Spot → Type 0
+PassesToken text spots false left = ((before : List Tok) → next_token text before spots ≡ None) × (left ≡ after_blanks spots)
+PassesToken text spots true left = (l : Lexeme) × ((before : List Tok) → wants_header before ≡ false → next_token text before spots ≡ Some l) × (left ≡ l.left)
 
 abbrev pub is_nil : List Tok → Bool
 is_nil [] = true

@@ -1,4 +1,5 @@
-//! The preprocessing tokens of a text, one by one and by logical lines ([lex.pptoken]).
+//! The preprocessing tokens of a text, one by one and by logical lines ([lex.pptoken]), and two tokens joined to one
+//! ([cpp.concat]).
 #![tactic(auto)]
 
 mod blanks;
@@ -7,7 +8,7 @@ mod lexeme;
 mod logical_lines;
 mod marks;
 mod passed;
-mod plain;
+mod passing;
 mod spelled;
 mod tokens;
 mod unquoted;
@@ -15,7 +16,8 @@ mod unquoted;
 pub use blanks::pass_blanks;
 pub use lexeme::{Found, Spelling, pass_lexeme};
 pub use logical_lines::lines;
-pub use plain::first_not_plain;
+pub use passing::pass_token;
+pub use token_spelling::paste;
 pub use tokens::token;
 
 #[cfg(test)]

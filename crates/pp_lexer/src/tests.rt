@@ -285,12 +285,3 @@ fn tokens_come_one_by_one(rt: HostRuntime) -> Result<(), Fail> {
     assert!(rt; third.is_none());
     Ok(())
 }
-
-#[test]
-fn the_first_byte_that_is_not_plain_has_its_line(rt: HostRuntime) -> Result<(), Fail> {
-    assert_eq!(rt; first_not_plain(b""), None);
-    assert_eq!(rt; first_not_plain(b"import a.b;\n{\t}\n"), None);
-    assert_eq!(rt; first_not_plain(b"#"), Some(1));
-    assert_eq!(rt; first_not_plain(b"import a;\n\nx:\n/"), Some(3));
-    Ok(())
-}

@@ -3,7 +3,7 @@
 //! All that it does beside `scanner::scan_alone` is to make the real sources and sinks and to end with the status.
 #![tactic(auto)]
 
-ghost use Rattle.std.specs.Prelude.{◌≡◌, ◌≤◌, [], All, IfOk, IsTrue, string_len, vec_len};
+ghost use Rattle.std.specs.Prelude.{◌≡◌, ◌≤◌, ◌↔◌, [], All, IfOk, IsTrue, string_len, vec_len};
 ghost use Rattle.scanner.specs.StoreMap.{IsUntouched};
 
 use file_source::{DiskSource, OutSink, Source};
@@ -44,7 +44,7 @@ fn status_of(kind: io::ErrorKind) -> u8 {
 }
 
 fn are_short(words: &[String]) -> bool
-    ensures { IsTrue result → All (λ word. string_len word ≤ 33554432) words.now }
+    ensures { IsTrue result ↔ All (λ word. string_len word ≤ 33554432) words.now }
 {
     words.iter().all(|word| word.len() <= WORD_LIMIT)
 }

@@ -5,10 +5,9 @@ use Rattle.std.proofs.lemmas.Slice.Eq.{bytes_eq-Decides}
 use Rattle.std.proofs.lemmas.List.{map-append}
 use Rattle.std.proofs.lemmas.List.Elements.{All-nil, All-head, All-tail, All-push, All-weaker, Contains-append_left, Contains-append_right}
 use Rattle.scan_model.specs.declared.Outcome.{Outcome}
-use Rattle.scan_model.specs.Files.{content}
 use Rattle.scan_model.specs.TokenTests.{same}
 use Rattle.shard_cache.specs.declared.KeptRow.{KeptRow}
-use Rattle.shard_cache.specs.Rows.{ShardView, all_rows, all_asked, all_origins, paths_of, LacksPath, change_at, asked_also, kept_also, shard_number, IsStore}
+use Rattle.shard_cache.specs.Rows.{ShardView, all_rows, all_asked, all_origins, paths_of, LacksPath, change_at, asked_also, kept_also, shard_number, IsStore, row_content}
 use Rattle.scanner.specs.StoreMap.{file_map, IsGivenHere, AreGiven, IsOneMap, HaveRows, IsUntouched}
 use Rattle.shard_cache.proofs.RowLemmas.{All-parts}
 use Rattle.shard_cache.proofs.StoreLemmas.{all_rows-asked, IsStore-differ}
@@ -59,12 +58,12 @@ given_asked {S} {O} {G} gp go path zero (s ∷ ss) g = (
 given_asked gp go path (suc k) (s ∷ ss) g = (g.0, given_asked gp go path k ss g.1)
 
 -- a path that nobody asked for is asked for
-pub IsOneMap-asked : {S O G : Type 0} (gp : G → List ℕ) (go : G → ℕ) (path : List ℕ) (k : ℕ) (ss : List (ShardView S O G)) → k < length ss → All (λ other. other ≢ path) (all_asked ss) → IsStore gp (change_at (asked_also path) k ss) → IsOneMap gp go ss → IsOneMap gp go (change_at (asked_also path) k ss)
-IsOneMap-asked {S} {O} {G} gp go path k ss inside new valid m = record {
+pub IsOneMap-asked : {S O G : Type 0} (fits : KeptRow S O G → Type 0) (gp : G → List ℕ) (go : G → ℕ) (path : List ℕ) (k : ℕ) (ss : List (ShardView S O G)) → k < length ss → All (λ other. other ≢ path) (all_asked ss) → IsStore fits (change_at (asked_also path) k ss) → IsOneMap gp go ss → IsOneMap gp go (change_at (asked_also path) k ss)
+IsOneMap-asked {S} {O} {G} fits gp go path k ss inside new valid m = record {
   asked_once =
       AllDiffer-inserted (all_asked ss) (all_asked (change_at (asked_also path) k ss)) path
       (flat_map-change_at (λ (s : ShardView S O G). s.asked) (asked_also path) path k ss (λ s. refl) inside) m.asked_once new;
-  paths_differ = IsStore-differ gp (change_at (asked_also path) k ss) valid;
+  paths_differ = IsStore-differ fits (change_at (asked_also path) k ss) valid;
   given = given_asked gp go path k ss m.given;
 }
 
@@ -91,12 +90,12 @@ given_kept {S} {O} {G} gp go path row zero (s ∷ ss) same_path given origin g =
 given_kept gp go path row (suc k) (s ∷ ss) same_path given origin g = (g.0, given_kept gp go path row k ss same_path given origin g.1)
 
 -- a path that nobody asked for is asked for, and its row is added
-pub IsOneMap-kept : {S O G : Type 0} (gp : G → List ℕ) (go : G → ℕ) (path : List ℕ) (row : KeptRow S O G) (k : ℕ) (ss : List (ShardView S O G)) → k < length ss → row.path ≡ path → gp row.given ≡ row.path → slice_get (all_origins ss) k ≡ Some (go row.given) → All (λ other. other ≢ path) (all_asked ss) → IsStore gp (change_at (asked_and_kept path row) k ss) → IsOneMap gp go ss → IsOneMap gp go (change_at (asked_and_kept path row) k ss)
-IsOneMap-kept {S} {O} {G} gp go path row k ss inside same_path given origin new valid m = record {
+pub IsOneMap-kept : {S O G : Type 0} (fits : KeptRow S O G → Type 0) (gp : G → List ℕ) (go : G → ℕ) (path : List ℕ) (row : KeptRow S O G) (k : ℕ) (ss : List (ShardView S O G)) → k < length ss → row.path ≡ path → gp row.given ≡ row.path → slice_get (all_origins ss) k ≡ Some (go row.given) → All (λ other. other ≢ path) (all_asked ss) → IsStore fits (change_at (asked_and_kept path row) k ss) → IsOneMap gp go ss → IsOneMap gp go (change_at (asked_and_kept path row) k ss)
+IsOneMap-kept {S} {O} {G} fits gp go path row k ss inside same_path given origin new valid m = record {
   asked_once =
       AllDiffer-inserted (all_asked ss) (all_asked (change_at (asked_and_kept path row) k ss)) path
       (flat_map-change_at (λ (s : ShardView S O G). s.asked) (asked_and_kept path row) path k ss (λ s. refl) inside) m.asked_once new;
-  paths_differ = IsStore-differ gp (change_at (asked_and_kept path row) k ss) valid;
+  paths_differ = IsStore-differ fits (change_at (asked_and_kept path row) k ss) valid;
   given = given_kept gp go path row k ss same_path given origin m.given;
 }
 
@@ -127,8 +126,8 @@ file_map-lacking {S} {O} {G} outcome bytes path (row ∷ rows) more l =
     not_same : (xs ys : List ℕ) → xs ≢ ys → same xs ys ≡ false
     not_same xs ys ne = not_true (same xs ys) (λ e. ne ((bytes_eq-Decides xs ys).0 e))
 
--- a path that no row has gets a row: the map has what that row's read gave
-pub file_map-kept : {S O G : Type 0} (outcome : G → Outcome) (bytes : G → List ℕ) (path : List ℕ) (row : KeptRow S O G) (k : ℕ) (ss : List (ShardView S O G)) → k < length ss → row.path ≡ path → LacksPath ss path → file_map outcome bytes (all_rows (change_at (asked_and_kept path row) k ss)) path ≡ Some (content (outcome row.given) (bytes row.given))
+-- a path that no row has gets a row: the map has what that row stands for
+pub file_map-kept : {S O G : Type 0} (outcome : G → Outcome) (bytes : G → List ℕ) (path : List ℕ) (row : KeptRow S O G) (k : ℕ) (ss : List (ShardView S O G)) → k < length ss → row.path ≡ path → LacksPath ss path → file_map outcome bytes (all_rows (change_at (asked_and_kept path row) k ss)) path ≡ Some (row_content outcome bytes row)
 file_map-kept {S} {O} {G} outcome bytes path row k ss inside same_path l =
     let added = flat_map-change_at (λ (s : ShardView S O G). s.rows) (asked_and_kept path row) row k ss (λ s. refl) inside in
     let lacks : All (λ (r : KeptRow S O G). r.path ≢ path) (added.before ++ added.after) = rw (← added.was) l in
@@ -167,7 +166,7 @@ length-change_at f zero (x ∷ xs) = refl
 length-change_at f (suc k) (x ∷ xs) = ap suc (length-change_at f k xs)
 
 -- a path's shard is one of the store's
-pub shard_inside : {S O G : Type 0} (gp : G → List ℕ) (f : ShardView S O G → ShardView S O G) (path : List ℕ) (ss now : List (ShardView S O G)) → now ≡ change_at f (shard_number path) ss → IsStore gp now → shard_number path < length ss
-shard_inside gp f path ss now e valid =
+pub shard_inside : {S O G : Type 0} (fits : KeptRow S O G → Type 0) (f : ShardView S O G → ShardView S O G) (path : List ℕ) (ss now : List (ShardView S O G)) → now ≡ change_at f (shard_number path) ss → IsStore fits now → shard_number path < length ss
+shard_inside fits f path ss now e valid =
     let sixteen : length ss ≡ 16 = sym (length-change_at f (shard_number path) ss) ∙ (sym (ap length e) ∙ valid.sixteen) in
     rw sixteen (mod-lt (sum path) (lit< tt))

@@ -6,3 +6,4 @@ pub mod StoreMap
 pub mod Sinks
 pub mod Printed
 pub mod Run
+pub mod Reading

@@ -1,17 +1,17 @@
 -- The rows of a store as one file map.
 use Rattle.std.specs.Prelude.{◌≡◌, ℕ, List, [], ◌∷◌, Some, None, if◌then◌else◌, All, Contains}
 use Rattle.scan_model.specs.declared.Outcome.{Outcome}
-use Rattle.scan_model.specs.Files.{FileMap, content}
+use Rattle.scan_model.specs.Files.{FileMap}
 use Rattle.scan_model.specs.TokenTests.{same}
 use Rattle.shard_cache.specs.declared.KeptRow.{KeptRow}
-use Rattle.shard_cache.specs.Rows.{ShardView, all_rows, all_asked, paths_of, AllDiffer}
+use Rattle.shard_cache.specs.Rows.{ShardView, all_rows, all_asked, paths_of, AllDiffer, row_content}
 
--- what the rows' reads gave for a path, in the words of their source
+-- what the rows stand for, in the words of their source
 abbrev pub file_map : {S O G : Type 0} → (G → Outcome) → (G → List ℕ) → List (KeptRow S O G) → FileMap (List ℕ)
 file_map outcome bytes [] path = None
 file_map outcome bytes (row ∷ rows) path =
     let later = file_map outcome bytes rows path in
-    if same row.path path then Some (content (outcome row.given) (bytes row.given)) else later
+    if same row.path path then Some (row_content outcome bytes row) else later
 
 -- each row has what its shard's source gave for its path, which that source was asked for
 pub record IsGivenHere {S O G : Type 0} (given_path : G → List ℕ) (given_origin : G → ℕ) (shard : ShardView S O G) : Type 0 where

@@ -4,6 +4,7 @@ ghost use Rattle.unit_scan.specs.PlainAnswer.{main_paths};
 ghost use Rattle.scanner.specs.StoreMap.{file_map, IsOneMap, IsUntouched, HaveRows};
 ghost use Rattle.scanner.specs.Run.{IsEnd};
 
+use crate::reading::reading;
 use file_source::Source;
 use scan_model::{Bytes, Command, NoMemory, PathText, UnitEnd};
 use shard_cache::{KeptRow, Store};
@@ -25,8 +26,13 @@ pub(crate) fn scan_command<S: Source>(
     let path = PathText::of_normal(Bytes::copy(alloc, command.main.as_slice())?);
     let opener = store.ask(alloc, &path)?;
     let given = S::read(alloc, opener);
-    let end = end_of_unit(alloc, command, S::outcome(&given), S::bytes(&given));
-    match store.add(KeptRow { path, given }) {
+    let (answer, reduced) = reading(alloc, S::outcome(&given), S::bytes(&given));
+    let end = end_of_unit(alloc, command, &answer);
+    match store.add(KeptRow {
+        path,
+        given,
+        reduced,
+    }) {
         Ok(()) => Ok(end),
         Err(_) => Err(NoMemory),
     }

@@ -8,6 +8,7 @@ mod alone;
 mod command_scan;
 mod outside;
 mod printing;
+mod reading;
 mod refusal;
 mod verdict;
 mod words;

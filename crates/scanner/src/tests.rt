@@ -77,6 +77,45 @@ const REQUIRES_M_AND_N: &str = "{
 }
 ";
 
+const REQUIRES_A: &str = "{
+  \"revision\": 0,
+  \"rules\": [
+    {
+      \"primary-output\": \"u.o\",
+      \"requires\": [
+        {
+          \"logical-name\": \"a\"
+        }
+      ]
+    }
+  ],
+  \"version\": 1
+}
+";
+
+const PARTITION_P_OF_M: &str = "{
+  \"revision\": 0,
+  \"rules\": [
+    {
+      \"primary-output\": \"u.o\",
+      \"provides\": [
+        {
+          \"is-interface\": false,
+          \"logical-name\": \"M:P\",
+          \"source-path\": \"/p/u.cpp\"
+        }
+      ],
+      \"requires\": [
+        {
+          \"logical-name\": \"M:Q\"
+        }
+      ]
+    }
+  ],
+  \"version\": 1
+}
+";
+
 const USAGE: &str = "usage: scan_deps --compilation-database=FILE [options]\n";
 
 // A run that scans a main file.
@@ -200,6 +239,12 @@ fn units(rt: HostRuntime) -> Result<(), Fail> {
             "command 1: /p/u.cpp:1: NotYet\n",
         ),
         scan(
+            Has::Text("int x;\n%: if 1\nimport a\n"),
+            1,
+            NO_RULES,
+            "command 1: /p/u.cpp:2: NotYet\n",
+        ),
+        scan(
             Has::Text("import a\n"),
             1,
             NO_RULES,
@@ -222,6 +267,45 @@ fn units(rt: HostRuntime) -> Result<(), Fail> {
             1,
             NO_RULES,
             "command 1: /p/u.cpp:0: ReadFault\n",
+        ),
+    ] {
+        is_as_said(&rt, rt.alloc(), &case)?;
+    }
+    Ok(())
+}
+
+#[test]
+fn units_of_any_text(rt: HostRuntime) -> Result<(), Fail> {
+    for case in [
+        scan(
+            Has::Text("module M:P;\nimport :Q;\n"),
+            0,
+            PARTITION_P_OF_M,
+            "",
+        ),
+        scan(
+            Has::Text("\nimport :P;\nmodule M;\n"),
+            1,
+            NO_RULES,
+            "command 1: /p/u.cpp:2: PartitionOutsideModule\n",
+        ),
+        scan(
+            Has::Text("import <vector>;\n"),
+            1,
+            NO_RULES,
+            "command 1: /p/u.cpp:1: HeaderUnit\n",
+        ),
+        scan(
+            Has::Text("auto s = R\"x(\n#define import x\n)x\";\nimport a;\n"),
+            0,
+            REQUIRES_A,
+            "",
+        ),
+        scan(
+            Has::Text("FOOR\"(\"\nimport a;\nx = \")\";\n"),
+            0,
+            REQUIRES_A,
+            "",
         ),
     ] {
         is_as_said(&rt, rt.alloc(), &case)?;

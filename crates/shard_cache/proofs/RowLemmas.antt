@@ -21,20 +21,20 @@ set-change_at f (x ∷ xs) zero old y o e = ap (λ z. z ∷ xs) (e ∙ ap f o)
 set-change_at f (x ∷ xs) (suc k) old y o e = ap (λ zs. x ∷ zs) (set-change_at f xs k old y o e)
 
 -- a change of one shard, which keeps what that shard keeps, where no row has the path
-pub set-shard : {S O G : Type 0} (given_path : G → List ℕ) (path : List ℕ) (n k m : ℕ) (shards : List (ShardView S O G)) (old y : ShardView S O G) → m ≡ n + k → k < length shards → old ≡ get_or shards k old → AreShards given_path n shards → LacksPath shards path → (IsShard given_path m old → All (λ row. row.path ≢ path) old.rows → IsShard given_path m y) → AreShards given_path n (set shards k y)
-set-shard gp path n k m [] old y e lt o a l keep = tt
-set-shard {S = S} {O = O} {G = G} gp path n zero m (s ∷ ss) old y e lt o a l keep =
+pub set-shard : {S O G : Type 0} (fits : KeptRow S O G → Type 0) (path : List ℕ) (n k m : ℕ) (shards : List (ShardView S O G)) (old y : ShardView S O G) → m ≡ n + k → k < length shards → old ≡ get_or shards k old → AreShards fits n shards → LacksPath shards path → (IsShard fits m old → All (λ row. row.path ≢ path) old.rows → IsShard fits m y) → AreShards fits n (set shards k y)
+set-shard fits path n k m [] old y e lt o a l keep = tt
+set-shard {S = S} {O = O} {G = G} fits path n zero m (s ∷ ss) old y e lt o a l keep =
     let lacked = All-parts (λ (row : KeptRow S O G). row.path ≢ path) s.rows (all_rows ss) l in
     let at_n : m ≡ n = omega arith in
-    let was : IsShard gp m old = rw (at_n, o) a.0 in
+    let was : IsShard fits m old = rw (at_n, o) a.0 in
     let lacks : All (λ row. row.path ≢ path) old.rows = rw o lacked.0 in
-    let now : IsShard gp n y = rw at_n at (keep was lacks) in
+    let now : IsShard fits n y = rw at_n at (keep was lacks) in
     (now, a.1)
-set-shard {S = S} {O = O} {G = G} gp path n (suc k) m (s ∷ ss) old y e lt o a l keep =
+set-shard {S = S} {O = O} {G = G} fits path n (suc k) m (s ∷ ss) old y e lt o a l keep =
     let lacked = All-parts (λ (row : KeptRow S O G). row.path ≢ path) s.rows (all_rows ss) l in
     let at_next : m ≡ suc n + k = omega arith in
     let inside : k < length ss = omega arith in
-    (a.0, set-shard gp path (suc n) k m ss old y at_next inside o a.1 lacked.1 keep)
+    (a.0, set-shard fits path (suc n) k m ss old y at_next inside o a.1 lacked.1 keep)
 
 -- one more that is among none
 pub AllDiffer-push : (ps : List (List ℕ)) (p : List ℕ) → AllDiffer ps → All (λ q. q ≢ p) ps → AllDiffer (ps ++ p ∷ [])
@@ -42,18 +42,18 @@ AllDiffer-push [] p d l = (All-nil _, tt)
 AllDiffer-push (q ∷ ps) p d l = (All-push (λ r. q ≢ r) ps p d.0 (All-head (λ r. r ≢ p) q ps l), AllDiffer-push ps p d.1 (All-tail (λ r. r ≢ p) q ps l))
 
 -- a shard with one row more
-pub IsShard-kept : {S O G : Type 0} (given_path : G → List ℕ) (m : ℕ) (row : KeptRow S O G) (shard : ShardView S O G) → shard_number row.path ≡ m → given_path row.given ≡ row.path → IsShard given_path m shard → All (λ other. other.path ≢ row.path) shard.rows → IsShard given_path m (kept_also row shard)
-IsShard-kept gp m row shard number given s lacks = record {
+pub IsShard-kept : {S O G : Type 0} (fits : KeptRow S O G → Type 0) (m : ℕ) (row : KeptRow S O G) (shard : ShardView S O G) → shard_number row.path ≡ m → fits row → IsShard fits m shard → All (λ other. other.path ≢ row.path) shard.rows → IsShard fits m (kept_also row shard)
+IsShard-kept fits m row shard number fitting s lacks = record {
   placed = All-push (λ r. shard_number r.path ≡ m) shard.rows row s.placed number;
-  given = All-push (λ r. gp r.given ≡ r.path) shard.rows row s.given given;
+  each_row = All-push (λ r. fits r) shard.rows row s.each_row fitting;
   differ = rw (map-append (λ r. r.path) shard.rows (row ∷ [])) (AllDiffer-push (paths_of shard.rows) row.path s.differ (All-map (λ q. q ≢ row.path) (λ r. r.path) shard.rows lacks));
 }
 
 -- a shard whose rows stay
-pub IsShard-same_rows : {S O G : Type 0} (given_path : G → List ℕ) (m : ℕ) (old y : ShardView S O G) → y.rows ≡ old.rows → IsShard given_path m old → IsShard given_path m y
-IsShard-same_rows gp m old y e s = record {
+pub IsShard-same_rows : {S O G : Type 0} (fits : KeptRow S O G → Type 0) (m : ℕ) (old y : ShardView S O G) → y.rows ≡ old.rows → IsShard fits m old → IsShard fits m y
+IsShard-same_rows fits m old y e s = record {
   placed = rw e s.placed;
-  given = rw e s.given;
+  each_row = rw e s.each_row;
   differ = rw e s.differ;
 }
 
@@ -77,25 +77,25 @@ fresh_origins : {S : Type 0} (O G : Type 0) (asked : S → List (List ℕ)) (ori
 fresh_origins O G asked origin [] = refl
 fresh_origins O G asked origin (s ∷ ss) = ap (λ xs. origin s ∷ xs) (fresh_origins O G asked origin ss)
 
-fresh_shards : {S G : Type 0} (O : Type 0) (asked : S → List (List ℕ)) (origin : S → ℕ) (given_path : G → List ℕ) (n : ℕ) (sources : List S) → AreShards {S = S} {O = O} {G = G} given_path n (map (fresh_shard asked origin) sources)
-fresh_shards O asked origin gp n [] = tt
-fresh_shards O asked origin gp n (s ∷ ss) =
-    (record { placed = All-nil _; given = All-nil _; differ = tt }, fresh_shards O asked origin gp (suc n) ss)
+fresh_shards : {S G : Type 0} (O : Type 0) (asked : S → List (List ℕ)) (origin : S → ℕ) (fits : KeptRow S O G → Type 0) (n : ℕ) (sources : List S) → AreShards {S = S} {O = O} {G = G} fits n (map (fresh_shard asked origin) sources)
+fresh_shards O asked origin fits n [] = tt
+fresh_shards O asked origin fits n (s ∷ ss) =
+    (record { placed = All-nil _; each_row = All-nil _; differ = tt }, fresh_shards O asked origin fits (suc n) ss)
 
 -- the shards are those of these sources, which have asked nothing
-pub record AreFresh {S O G : Type 0} (given_path : G → List ℕ) (origin : S → ℕ) (sources : List S) (shards : List (ShardView S O G)) : Type 0 where
+pub record AreFresh {S O G : Type 0} (fits : KeptRow S O G → Type 0) (origin : S → ℕ) (sources : List S) (shards : List (ShardView S O G)) : Type 0 where
   pub no_row : all_rows shards ≡ []
   pub nothing_asked : all_asked shards ≡ []
   pub origins : all_origins shards ≡ map origin sources
-  pub valid : IsStore given_path shards
+  pub valid : IsStore fits shards
 
 empty : {A : Type 0} (xs : List A) → length xs ≡ 0 → xs ≡ []
 empty [] e = refl
 empty (x ∷ xs) e = absurd (omega arith)
 
 -- the store that is made, where no source is left
-pub made-all : {S O G : Type 0} (asked : S → List (List ℕ)) (origin : S → ℕ) (given_path : G → List ℕ) (sources left : List S) (shards : List (ShardView S O G)) → length sources ≡ 16 → All (λ source. asked source ≡ []) sources → shards ++ map (fresh_shard asked origin) (reverse left) ≡ map (fresh_shard asked origin) sources → length left ≡ 0 → AreFresh given_path origin sources shards
-made-all {O = O} {G = G} asked origin gp sources left shards sixteen unasked made none =
+pub made-all : {S O G : Type 0} (asked : S → List (List ℕ)) (origin : S → ℕ) (fits : KeptRow S O G → Type 0) (sources left : List S) (shards : List (ShardView S O G)) → length sources ≡ 16 → All (λ source. asked source ≡ []) sources → shards ++ map (fresh_shard asked origin) (reverse left) ≡ map (fresh_shard asked origin) sources → length left ≡ 0 → AreFresh fits origin sources shards
+made-all {O = O} {G = G} asked origin fits sources left shards sixteen unasked made none =
     let nothing : left ≡ [] = empty left none in
     let all : shards ≡ map (fresh_shard asked origin) sources = sym (append-nil shards) ∙ rw nothing at made in
     record {
@@ -104,7 +104,7 @@ made-all {O = O} {G = G} asked origin gp sources left shards sixteen unasked mad
       origins = rw all (fresh_origins O G asked origin sources);
       valid = rw all (record {
         sixteen = length-map sources (fresh_shard asked origin) ∙ sixteen;
-        each = fresh_shards O asked origin gp 0 sources;
+        each = fresh_shards O asked origin fits 0 sources;
       });
     }
 
@@ -123,23 +123,23 @@ pub made-more : {A B : Type 0} (f : A → B) (made : List B) (items left : List 
 made-more f made items left x e = rw (e, reverse-append left (x ∷ [])) (append_assoc made (f x ∷ []) (map f (reverse left)))
 
 -- what a store keeps after an ask of one shard's source
-pub IsStore-asked : {S O G : Type 0} (given_path : G → List ℕ) (path : List ℕ) (k : ℕ) (shards : List (ShardView S O G)) (old y : ShardView S O G) → IsStore given_path shards → k < 16 → old ≡ get_or shards k old → LacksPath shards path → y.rows ≡ old.rows → IsStore given_path (set shards k y)
-IsStore-asked gp path k shards old y store bound at lacks rows = record {
+pub IsStore-asked : {S O G : Type 0} (fits : KeptRow S O G → Type 0) (path : List ℕ) (k : ℕ) (shards : List (ShardView S O G)) (old y : ShardView S O G) → IsStore fits shards → k < 16 → old ≡ get_or shards k old → LacksPath shards path → y.rows ≡ old.rows → IsStore fits (set shards k y)
+IsStore-asked fits path k shards old y store bound at lacks rows = record {
   sixteen = length-set shards k y ∙ store.sixteen;
   each =
       let inside : k < length shards = rw store.sixteen bound in
-      set-shard gp path 0 k k shards old y (omega arith) inside at store.each lacks (λ was _. IsShard-same_rows gp k old y rows was);
+      set-shard fits path 0 k k shards old y (omega arith) inside at store.each lacks (λ was _. IsShard-same_rows fits k old y rows was);
 }
 
 -- what a store keeps where a row was added to its path's shard, or nothing
-pub IsStore-added : {S O G : Type 0} (given_path : G → List ℕ) (row : KeptRow S O G) (k : ℕ) (shards : List (ShardView S O G)) (old y : ShardView S O G) (r : Result (Unit {0}) (KeptRow S O G)) → IsStore given_path shards → k < 16 → old ≡ get_or shards k old → LacksPath shards row.path → shard_number row.path ≡ k → given_path row.given ≡ row.path → OnOk r (y ≡ kept_also row old) → IfErr r (λ back. (back ≡ row) × (y ≡ old)) → IsStore given_path (set shards k y)
-IsStore-added gp row k shards old y r store bound at lacks number given ok err = record {
+pub IsStore-added : {S O G : Type 0} (fits : KeptRow S O G → Type 0) (row : KeptRow S O G) (k : ℕ) (shards : List (ShardView S O G)) (old y : ShardView S O G) (r : Result (Unit {0}) (KeptRow S O G)) → IsStore fits shards → k < 16 → old ≡ get_or shards k old → LacksPath shards row.path → shard_number row.path ≡ k → fits row → OnOk r (y ≡ kept_also row old) → IfErr r (λ back. (back ≡ row) × (y ≡ old)) → IsStore fits (set shards k y)
+IsStore-added fits row k shards old y r store bound at lacks number fitting ok err = record {
   sixteen = length-set shards k y ∙ store.sixteen;
   each =
       let inside : k < length shards = rw store.sixteen bound in
-      set-shard gp row.path 0 k k shards old y (omega arith) inside at store.each lacks
+      set-shard fits row.path 0 k k shards old y (omega arith) inside at store.each lacks
       (λ was lacked. ⊎_elim
-      (λ added. rw added (IsShard-kept gp k row old number given was lacked))
+      (λ added. rw added (IsShard-kept fits k row old number fitting was lacked))
       (λ same. rw same was)
       (added_or_not r row old y ok err));
 }

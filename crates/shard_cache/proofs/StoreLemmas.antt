@@ -54,10 +54,10 @@ record AreApart {S O G : Type 0} (n : ℕ) (shards : List (ShardView S O G)) : T
   differ : AllDiffer (paths_of (all_rows shards))
   placed : All (λ q. n ≤ shard_number q) (paths_of (all_rows shards))
 
-apart-shards : {S O G : Type 0} (given_path : G → List ℕ) (n : ℕ) (shards : List (ShardView S O G)) → AreShards given_path n shards → AreApart n shards
-apart-shards gp n [] are = record { differ = tt; placed = All-nil _ }
-apart-shards {S = S} {O = O} {G = G} gp n (s ∷ ss) are =
-    let rest : AreApart (suc n) ss = apart-shards gp (suc n) ss are.1 in
+apart-shards : {S O G : Type 0} (fits : KeptRow S O G → Type 0) (n : ℕ) (shards : List (ShardView S O G)) → AreShards fits n shards → AreApart n shards
+apart-shards fits n [] are = record { differ = tt; placed = All-nil _ }
+apart-shards {S = S} {O = O} {G = G} fits n (s ∷ ss) are =
+    let rest : AreApart (suc n) ss = apart-shards fits (suc n) ss are.1 in
     let here : All (λ q. shard_number q ≡ n) (paths_of s.rows) = All-map (λ (q : List ℕ). shard_number q ≡ n) (λ (row : KeptRow S O G). row.path) s.rows are.0.placed in
     let later : All (λ q. n < shard_number q) (paths_of (all_rows ss)) = All-weaker (λ (q : List ℕ). suc n ≤ shard_number q) (λ (q : List ℕ). n < shard_number q) (λ q h. omega (arith, h)) (paths_of (all_rows ss)) rest.placed in
     let at_least : All (λ q. n ≤ shard_number q) (paths_of s.rows) = All-weaker (λ (q : List ℕ). shard_number q ≡ n) (λ (q : List ℕ). n ≤ shard_number q) (λ q h. omega (arith, h)) (paths_of s.rows) here in
@@ -68,14 +68,14 @@ apart-shards {S = S} {O = O} {G = G} gp n (s ∷ ss) are =
     }
 
 -- no two rows of a store have the same path
-pub IsStore-differ : {S O G : Type 0} (given_path : G → List ℕ) (shards : List (ShardView S O G)) → IsStore given_path shards → AllDiffer (paths_of (all_rows shards))
-IsStore-differ gp shards store = (apart-shards gp 0 shards store.each).differ
+pub IsStore-differ : {S O G : Type 0} (fits : KeptRow S O G → Type 0) (shards : List (ShardView S O G)) → IsStore fits shards → AllDiffer (paths_of (all_rows shards))
+IsStore-differ fits shards store = (apart-shards fits 0 shards store.each).differ
 
-given_shards : {S O G : Type 0} (given_path : G → List ℕ) (n : ℕ) (shards : List (ShardView S O G)) → AreShards given_path n shards → All (λ row. given_path row.given ≡ row.path) (all_rows shards)
-given_shards gp n [] are = All-nil _
-given_shards {S = S} {O = O} {G = G} gp n (s ∷ ss) are =
-    All-append (λ (row : KeptRow S O G). gp row.given ≡ row.path) s.rows (all_rows ss) are.0.given (given_shards gp (suc n) ss are.1)
+fitting_rows : {S O G : Type 0} (fits : KeptRow S O G → Type 0) (n : ℕ) (shards : List (ShardView S O G)) → AreShards fits n shards → All (λ row. fits row) (all_rows shards)
+fitting_rows fits n [] are = All-nil _
+fitting_rows {S = S} {O = O} {G = G} fits n (s ∷ ss) are =
+    All-append (λ (row : KeptRow S O G). fits row) s.rows (all_rows ss) are.0.each_row (fitting_rows fits (suc n) ss are.1)
 
--- what each row of a store has was given for its path
-pub IsStore-given : {S O G : Type 0} (given_path : G → List ℕ) (shards : List (ShardView S O G)) → IsStore given_path shards → All (λ row. given_path row.given ≡ row.path) (all_rows shards)
-IsStore-given gp shards store = given_shards gp 0 shards store.each
+-- every row of a store keeps what a row keeps
+pub IsStore-rows : {S O G : Type 0} (fits : KeptRow S O G → Type 0) (shards : List (ShardView S O G)) → IsStore fits shards → All (λ row. fits row) (all_rows shards)
+IsStore-rows fits shards store = fitting_rows fits 0 shards store.each

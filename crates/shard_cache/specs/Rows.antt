@@ -1,7 +1,35 @@
 -- The rows of a store: 16 shards, each with the paths that its source was asked for, and its rows.
-use Rattle.std.specs.Prelude.{◌≡◌, ◌≢◌, ◌%◌, ℕ, zero, suc, List, [], ◌∷◌, ◌++◌, map, sum, length, All, slice_index_or}
+use Rattle.std.specs.Prelude.{◌≡◌, ◌≢◌, ◌%◌, ℕ, zero, suc, List, [], ◌∷◌, ◌++◌, map, sum, length, All, slice_index_or, Bool, false, is_some}
 use Rattle.std.specs.List.{flat_map}
+use Rattle.std.specs.Option.{ForSome}
+use Rattle.std.specs.Arc.{arc_value}
+use Rattle.scan_model.specs.declared.Outcome.{Outcome}
+use Rattle.scan_model.specs.declared.Outcome.TheVariants.{Present}
+use Rattle.scan_model.specs.Lines.{kept}
+use Rattle.scan_model.specs.Files.{Content, NoMemory, content}
 use Rattle.shard_cache.specs.declared.kept_row.KeptRow.{KeptRow}
+
+-- ## A row
+
+-- where a row has lines, its file was read, and they are the kept lines of its bytes
+abbrev pub HasOwnLines : {S O G : Type 0} → (G → Outcome) → (G → List ℕ) → KeptRow S O G → Type 0
+HasOwnLines outcome bytes row = ForSome row.reduced (λ lines. (outcome row.given ≡ Present) × (arc_value lines ≡ kept (bytes row.given)))
+
+-- what every row of a store keeps: it has what was given for its path, and no lines but its own
+pub record IsRow {S O G : Type 0} (given_path : G → List ℕ) (outcome : G → Outcome) (bytes : G → List ℕ) (row : KeptRow S O G) : Type 0 where
+  pub given : given_path row.given ≡ row.path
+  pub reduced : HasOwnLines outcome bytes row
+
+-- what a read with this outcome and these bytes stands for, by whether a row has its lines
+abbrev pub stands_for : Bool → Outcome → List ℕ → Content (List ℕ)
+stands_for false Present bytes = NoMemory
+stands_for has_lines outcome bytes = content outcome bytes
+
+-- what a row stands for
+abbrev pub row_content : {S O G : Type 0} → (G → Outcome) → (G → List ℕ) → KeptRow S O G → Content (List ℕ)
+row_content outcome bytes row = stands_for (is_some row.reduced) (outcome row.given) (bytes row.given)
+
+-- ## Shards
 
 -- a shard, with its source seen as the paths that it was asked for and its origin
 pub record ShardView (S O G : Type 0) : Type 0 where
@@ -55,21 +83,21 @@ abbrev pub AllDiffer : List (List ℕ) → Type 0
 AllDiffer [] = Unit {0}
 AllDiffer (p ∷ ps) = All (λ q. p ≢ q) ps × AllDiffer ps
 
--- the rows of one shard: each stands in its path's shard and has what was given for its path, and no two have one path
-pub record IsShard {S O G : Type 0} (given_path : G → List ℕ) (k : ℕ) (shard : ShardView S O G) : Type 0 where
+-- the rows of one shard: each stands in its path's shard and keeps what a row keeps, and no two have one path
+pub record IsShard {S O G : Type 0} (fits : KeptRow S O G → Type 0) (k : ℕ) (shard : ShardView S O G) : Type 0 where
   pub placed : All (λ row. shard_number row.path ≡ k) shard.rows
-  pub given : All (λ row. given_path row.given ≡ row.path) shard.rows
+  pub each_row : All fits shard.rows
   pub differ : AllDiffer (paths_of shard.rows)
 
 -- the shards from number k on
-abbrev pub AreShards : {S O G : Type 0} → (G → List ℕ) → ℕ → List (ShardView S O G) → Type 0
-AreShards given_path k [] = Unit {0}
-AreShards given_path k (shard ∷ shards) = IsShard given_path k shard × AreShards given_path (suc k) shards
+abbrev pub AreShards : {S O G : Type 0} → (KeptRow S O G → Type 0) → ℕ → List (ShardView S O G) → Type 0
+AreShards fits k [] = Unit {0}
+AreShards fits k (shard ∷ shards) = IsShard fits k shard × AreShards fits (suc k) shards
 
 -- what every store keeps
-pub record IsStore {S O G : Type 0} (given_path : G → List ℕ) (shards : List (ShardView S O G)) : Type 0 where
+pub record IsStore {S O G : Type 0} (fits : KeptRow S O G → Type 0) (shards : List (ShardView S O G)) : Type 0 where
   pub sixteen : length shards ≡ 16
-  pub each : AreShards given_path 0 shards
+  pub each : AreShards fits 0 shards
 
 -- no row has the path
 abbrev pub LacksPath : {S O G : Type 0} → List (ShardView S O G) → List ℕ → Type 0

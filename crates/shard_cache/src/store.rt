@@ -1,5 +1,5 @@
 ghost use Rattle.std.specs.Prelude.{◌≡◌, ◌<◌, ◌-◌, ◌^◌, [], Some, All, OnOk, OnErr, IfOk, IfErr, map, min, length, slice_get, vec_len};
-ghost use Rattle.shard_cache.specs.Rows.{shard_number, change_at, asked_also, kept_also, rows_at, all_rows, all_asked, all_origins, LacksPath, IsStore};
+ghost use Rattle.shard_cache.specs.Rows.{shard_number, change_at, asked_also, kept_also, rows_at, all_rows, all_asked, all_origins, LacksPath, HasOwnLines, IsRow, IsStore};
 
 use crate::KeptRow;
 use crate::shard::Shard;
@@ -21,13 +21,13 @@ pub struct Store<S: Source> {
 
 impl<S: Source> Model for Store<S> {
     ghost use Rattle.std.specs.Prelude.{List};
-    ghost use Rattle.shard_cache.specs.Rows.{ShardView, IsStore};
+    ghost use Rattle.shard_cache.specs.Rows.{ShardView, IsRow, IsStore};
 
     ghost Value = { List (ShardView S S.Opener S.Given) };
 
     ghost view = { λ s. s.shards.items };
 
-    ghost invariant = { λ s. IsStore S.given_path s.shards.items };
+    ghost invariant = { λ s. IsStore (IsRow S.given_path S.given_outcome S.given_bytes) s.shards.items };
 }
 
 // The number of the shard in which a path's row stands.
@@ -50,7 +50,7 @@ impl<S: Source> Store<S> {
         ensures no_row { IfOk result (λ store. all_rows store ≡ []) }
         ensures nothing_asked { IfOk result (λ store. all_asked store ≡ []) }
         ensures origins { IfOk result (λ store. all_origins store ≡ map S.origin sources.items) }
-        ensures valid { IfOk result (λ store. IsStore S.given_path store) }
+        ensures valid { IfOk result (λ store. IsStore (IsRow S.given_path S.given_outcome S.given_bytes) store) }
         ensures err { IfErr result (λ back. back.items ≡ sources.items) }
     {
         let Ok(mut shards) = Vec::with_capacity(alloc, SHARDS) else {
@@ -72,7 +72,7 @@ impl<S: Source> Store<S> {
         ensures opener { IfOk result (λ opener. S.opener_path opener ≡ path.now) }
         ensures opened_here { IfOk result (λ opener. slice_get (all_origins self.old) (shard_number path.now) ≡ Some (S.opener_origin opener)) }
         ensures err { OnErr result (self.new ≡ self.old) }
-        ensures valid { IsStore S.given_path self.new }
+        ensures valid { IsStore (IsRow S.given_path S.given_outcome S.given_bytes) self.new }
     {
         let number = shard_of(path.as_slice());
         let shard = &mut self.shards[number];
@@ -83,9 +83,10 @@ impl<S: Source> Store<S> {
     pub fn add(&mut self, row: KeptRow<S>) -> Result<(), KeptRow<S>>
         requires fresh { LacksPath self.old row.path }
         requires given { S.given_path row.given ≡ row.path }
+        requires reduced { HasOwnLines S.given_outcome S.given_bytes row }
         ensures ok { OnOk result (self.new ≡ change_at (kept_also row) (shard_number row.path) self.old) }
         ensures err { IfErr result (λ back. (back ≡ row) × (self.new ≡ self.old)) }
-        ensures valid { IsStore S.given_path self.new }
+        ensures valid { IsStore (IsRow S.given_path S.given_outcome S.given_bytes) self.new }
     {
         let number = shard_of(row.path.as_slice());
         let shard = &mut self.shards[number];
@@ -96,7 +97,7 @@ impl<S: Source> Store<S> {
     pub fn len(&self, shard: u32) -> u64
         requires { shard < 16 }
         ensures rows { result ≡ length (rows_at self.now shard) }
-        ensures valid { IsStore S.given_path self.now }
+        ensures valid { IsStore (IsRow S.given_path S.given_outcome S.given_bytes) self.now }
     {
         self.shards[shard as usize].len()
     }
@@ -106,7 +107,7 @@ impl<S: Source> Store<S> {
         requires shard { shard < 16 }
         requires row { k < length (rows_at self.now shard) }
         ensures row { slice_get (rows_at self.now shard) k ≡ Some result.now }
-        ensures valid { IsStore S.given_path self.now }
+        ensures valid { IsStore (IsRow S.given_path S.given_outcome S.given_bytes) self.now }
     {
         self.shards[shard as usize].row(k)
     }
@@ -114,7 +115,7 @@ impl<S: Source> Store<S> {
     /// The number of all rows, or 2^64 - 1 where there are more.
     pub fn paths(&self) -> u64
         ensures rows { result ≡ min (length (all_rows self.now)) (2 ^ 64 - 1) }
-        ensures valid { IsStore S.given_path self.now }
+        ensures valid { IsStore (IsRow S.given_path S.given_outcome S.given_bytes) self.now }
     {
         let mut total = 0u64;
         for shard in &self.shards {

@@ -44,7 +44,12 @@ fn keeps_what_was_asked(rt: HostRuntime) -> Result<(), Fail> {
     let path = path_w(alloc)?;
     let opener = store.ask(alloc, &path)?;
     let given = MemorySource::read(alloc, opener);
-    assert!(rt; store.add(KeptRow { path, given }).is_ok());
+    let row = KeptRow {
+        path,
+        given,
+        reduced: None,
+    };
+    assert!(rt; store.add(row).is_ok());
     assert_eq!(rt; store.paths(), 1);
     assert_eq!(rt; store.len(7), 1);
     assert_eq!(rt;

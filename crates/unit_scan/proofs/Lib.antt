@@ -1,3 +1,3 @@
-pub mod PlainEnds
+pub mod ViewLemmas
 pub mod FileLines
-pub mod ReadableLines
+pub mod PlainEnds

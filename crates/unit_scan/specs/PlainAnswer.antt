@@ -1,5 +1,6 @@
--- How a command's scan ends over a file map, for main files that this scanner reads so far: plain ones.
-use Rattle.std.specs.Prelude.{ℕ, Bool, if◌then◌else◌, List, [], ◌∷◌, map, ◌++◌, ◌&&◌, drop, take, Option, Some}
+-- How a command's scan ends over a file map, for main files that this scanner reads so far:
+-- those whose kept lines are module and import lines without built-in names.
+use Rattle.std.specs.Prelude.{ℕ, Bool, if◌then◌else◌, List, [], ◌∷◌, map, ◌++◌, ◌&&◌, ◌||◌, drop, take, Option, Some}
 use Rattle.std.specs.Option.{option_map, option_map_or}
 use Rattle.std.specs.List.{find as first_of, list_any}
 use Rattle.std.specs.declared.result.Result.{Result}
@@ -23,7 +24,6 @@ use Rattle.scan_model.specs.Files.{FileMap, Content, Present, Absent, Failed, Bi
 use Rattle.scan_model.specs.Answer.{Answer, Known, Unread}
 use Rattle.scan_model.specs.ModuleLines.{Builder}
 use Rattle.scan_model.specs.Stream.{ModuleLine, Piece, Sent, ModuleStop, read_stream}
-use Rattle.pp_lexer.specs.Plain.{are_plain, first_not_plain_line}
 
 -- ## What isn't read yet
 
@@ -34,14 +34,21 @@ built_in_names = "__FILE__" ∷ "__LINE__" ∷ "__DATE__" ∷ "__TIME__" ∷ "__
 abbrev pub is_built_in : Tok → Bool
 is_built_in t = is_of Ident t && is_one_of built_in_names t.text
 
-abbrev pub has_built_in : Line → Bool
-has_built_in line = list_any is_built_in line.toks
+abbrev pub is_hash : Tok → Bool
+is_hash t = is_one_of ("#" ∷ "%:" ∷ []) t.text
 
--- where the text has something that isn't read yet: a byte that isn't plain, or else a built-in name on a kept line
-unfoldable pub not_yet : List ℕ → Option ℕ
-not_yet text = if are_plain text then option_map (λ l. l.line) (first_of has_built_in (kept text)) else Some (first_not_plain_line text)
+-- a kept line that is a directive of the preprocessor, or has a built-in name
+abbrev pub are_unread : List Tok → Bool
+are_unread toks = begins_with is_hash toks || list_any is_built_in toks
 
--- ## The module and import lines of a plain file
+abbrev pub is_unread : Line → Bool
+is_unread line = are_unread line.toks
+
+-- the number of the first such line
+abbrev pub not_yet : List Line → Option ℕ
+not_yet lines = option_map (λ l. l.line) (first_of is_unread lines)
+
+-- ## The module and import lines of a file
 
 abbrev pub is_exported : List Tok → Bool
 is_exported toks = begins_with (λ t. spells "export" t.text) toks
@@ -88,21 +95,29 @@ abbrev pub record_or_fault : Result Builder ModuleStop → UnitEnd
 record_or_fault (Ok b) = Ends.Record b.so_far
 record_or_fault (Err stop) = Ends.Stopped stop.fault
 
--- the end where the main file has this text
-unfoldable pub text_end : Command → List ℕ → UnitEnd
-text_end command text =
-    let read = record_or_fault (read_stream command (pieces command.main (kept text))) in
-    option_map_or (stopped NotYet command.main) (not_yet text) read
+-- the end where the main file has these kept lines
+unfoldable pub lines_end : Command → List Line → UnitEnd
+lines_end command lines =
+    let read = record_or_fault (read_stream command (pieces command.main lines)) in
+    option_map_or (stopped NotYet command.main) (not_yet lines) read
 
-abbrev pub content_end : Command → Content (List ℕ) → UnitEnd
-content_end command (Present text) = text_end command text
+-- the end where the main file has this content, seen as its kept lines
+abbrev pub content_end : Command → Content (List Line) → UnitEnd
+content_end command (Present lines) = lines_end command lines
 content_end command Absent = stopped MainMissing command.main 0
 content_end command Failed = stopped ReadFault command.main 0
 content_end command Big = stopped FileTooLarge command.main 0
 content_end command NoMemory = Ends.NoMemory
 
+abbrev pub kept_content : Content (List ℕ) → Content (List Line)
+kept_content (Present text) = Present (kept text)
+kept_content Absent = Absent
+kept_content Failed = Failed
+kept_content Big = Big
+kept_content NoMemory = NoMemory
+
 abbrev pub found_end : Command → Found (List ℕ) → Answer
-found_end command (At path content) = Known (content_end command content)
+found_end command (At path content) = Known (content_end command (kept_content content))
 found_end command (Lacking path) = Unread path
 found_end command Nowhere = Known (stopped MainMissing command.main 0)
 

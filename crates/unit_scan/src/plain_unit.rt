@@ -1,45 +1,34 @@
-ghost use Rattle.std.specs.Prelude.{◌≡◌, ◌⊎◌, ◌≤◌, length, IfOk, Option};
-ghost use Rattle.std.specs.Option.{option_map};
-ghost use Rattle.std.specs.List.{find as first_of};
-ghost use Rattle.scan_model.specs.Files.{content};
-ghost use Rattle.unit_scan.specs.PlainAnswer.{is_built_in, has_built_in, stopped, content_end, text_end};
+ghost use Rattle.std.specs.Prelude.{◌≡◌, ◌⊎◌, IfOk};
+ghost use Rattle.reducer.specs.Answers.{content_of};
+ghost use Rattle.unit_scan.specs.PlainAnswer.{stopped, content_end, lines_end};
 
-use crate::directive_lines::kept_lines;
 use crate::file_lines::read_file_lines;
-use pp_lexer::first_not_plain;
-use scan_model::{
-    Bytes, Command, Fault, FaultKind, Kind, Line, NoMemory, Outcome, Place, Tok, UnitEnd,
-};
+use crate::unread_lines::first_unread;
+use reducer::{Answer, Reduced};
+use scan_model::{Bytes, Command, Fault, FaultKind, NoMemory, Place, UnitEnd};
 use std::alloc::Global;
 
-/// How the scan of a command ends whose main file was read with this outcome and these bytes.
+/// How the scan of a command ends whose main file is this.
 ///
-/// The end is NoMemory where memory is wanting, and where the outcome is NoMemory.
-pub fn end_of_unit(alloc: Global, command: &Command, outcome: Outcome, bytes: &[u8]) -> UnitEnd
-    requires { length bytes.now ≤ 33554432 }
-    ensures { (result ≡ UnitEnd.NoMemory) ⊎ (result ≡ content_end command.now (content outcome bytes.now)) }
+/// The end is NoMemory where memory is wanting, and where the answer is NoMemory.
+pub fn end_of_unit(alloc: Global, command: &Command, main: &Answer) -> UnitEnd
+    ensures { (result ≡ UnitEnd.NoMemory) ⊎ (result ≡ content_end command.now (content_of main.now)) }
 {
-    match try_end(alloc, command, outcome, bytes) {
+    match try_end(alloc, command, main) {
         Ok(end) => end,
         Err(NoMemory) => UnitEnd::NoMemory,
     }
 }
 
-fn try_end(
-    alloc: Global,
-    command: &Command,
-    outcome: Outcome,
-    bytes: &[u8],
-) -> Result<UnitEnd, NoMemory>
-    requires { length bytes.now ≤ 33554432 }
-    ensures { IfOk result (λ end. end ≡ content_end command.now (content outcome bytes.now)) }
+fn try_end(alloc: Global, command: &Command, main: &Answer) -> Result<UnitEnd, NoMemory>
+    ensures { IfOk result (λ end. end ≡ content_end command.now (content_of main.now)) }
 {
-    match outcome {
-        Outcome::Present => text_end(alloc, command, bytes),
-        Outcome::Absent => stopped(alloc, command, FaultKind::MainMissing, 0),
-        Outcome::Failed => stopped(alloc, command, FaultKind::ReadFault, 0),
-        Outcome::Big => stopped(alloc, command, FaultKind::FileTooLarge, 0),
-        Outcome::NoMemory => Ok(UnitEnd::NoMemory),
+    match main {
+        Answer::Lines(lines) => lines_end(alloc, command, lines),
+        Answer::Absent => stopped(alloc, command, FaultKind::MainMissing, 0),
+        Answer::Failed => stopped(alloc, command, FaultKind::ReadFault, 0),
+        Answer::Big => stopped(alloc, command, FaultKind::FileTooLarge, 0),
+        Answer::NoMemory => Ok(UnitEnd::NoMemory),
     }
 }
 
@@ -59,40 +48,11 @@ pub(crate) fn stopped(
     }))
 }
 
-fn text_end(alloc: Global, command: &Command, text: &[u8]) -> Result<UnitEnd, NoMemory>
-    requires { length text.now ≤ 33554432 }
-    ensures { IfOk result (λ end. end ≡ text_end command.now text.now) }
+fn lines_end(alloc: Global, command: &Command, lines: &Reduced) -> Result<UnitEnd, NoMemory>
+    ensures { IfOk result (λ end. end ≡ lines_end command.now lines.now) }
 {
-    if let Some(line) = first_not_plain(text) {
-        return stopped(alloc, command, FaultKind::NotYet, line);
+    match first_unread(lines) {
+        Some(line) => stopped(alloc, command, FaultKind::NotYet, line),
+        None => read_file_lines(alloc, command, lines),
     }
-    let lines = kept_lines(alloc, text)?;
-    if let Some(line) = first_built_in(&lines) {
-        return stopped(alloc, command, FaultKind::NotYet, line);
-    }
-    read_file_lines(alloc, command, &lines)
-}
-
-// The number of the first line that has a built-in name.
-fn first_built_in(lines: &[Line]) -> Option<u32>
-    ensures { result ≡ option_map (λ l. l.line) (first_of has_built_in lines.now) }
-{
-    let first = lines.iter().find(|line| has_built_in(line))?;
-    Some(first.line)
-}
-
-fn has_built_in(line: &Line) -> bool
-    ensures { result ≡ has_built_in line.now }
-{
-    line.toks.as_slice().iter().any(|tok| is_built_in(tok))
-}
-
-fn is_built_in(tok: &Tok) -> bool
-    ensures { result ≡ is_built_in tok.now }
-{
-    matches!(tok.kind, Kind::Ident)
-        && matches!(
-            tok.text.as_slice(),
-            b"__FILE__" | b"__LINE__" | b"__DATE__" | b"__TIME__" | b"__cplusplus" | b"__COUNTER__"
-        )
 }

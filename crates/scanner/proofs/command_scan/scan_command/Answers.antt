@@ -1,5 +1,5 @@
-use Rattle.std.proofs.Common.{◌≡◌, ◌∙◌, ap, sym, refl, Some, rules}
-use Rattle.shard_cache.specs.Rows.{shard_number, asked_also}
+use Rattle.std.proofs.Common.{◌≡◌, ◌∙◌, ap, sym, refl, Some, is_some, rules}
+use Rattle.shard_cache.specs.Rows.{shard_number, asked_also, stands_for, IsRow}
 use Rattle.scanner.proofs.StoreLemmas.{asked_and_kept, asked_then_kept, shard_inside, one_asked, file_map-kept, IsUntouched-IsOneMap, IsUntouched-LacksPath, IsUntouched-HaveRows, IsUntouched-new, LacksPath-asked, IsOneMap-asked, IsOneMap-kept, HaveRows-kept}
 use Rattle.scanner.proofs.ScanLemmas.{IsEnd-read, looked_one}
 use Rattle.scanner.proofs.command_scan.scan_command.Goals as goal
@@ -20,11 +20,11 @@ pub returns-in-Ok-clause-one_map : goal.returns-in-Ok-clause-one_map
 returns-in-Ok-clause-one_map g c =
     let path = c.of_normal-path.result in
     let ss = c.args.store.now in
-    let inside = shard_inside g.S.Source.given_path (asked_also path) path ss c.ask.new.self c.in_ok-opener.ensures.ok c.in_ok-opener.ensures.valid in
+    let inside = shard_inside (IsRow g.S.Source.given_path g.S.Source.given_outcome g.S.Source.given_bytes) (asked_also path) path ss c.ask.new.self c.in_ok-opener.ensures.ok c.in_ok-opener.ensures.valid in
     let given : g.S.Source.given_path c.read-given.result ≡ path = c.read-given.ensures.path ∙ c.in_ok-opener.ensures.opener in
     let kept = asked_then_kept path _ ss c.ask.new.self c.add.new.self refl c.in_ok-opener.ensures.ok c.in-Ok.ensures.ok in
     rw kept
-    (IsOneMap-kept g.S.Source.given_path g.S.Source.given_origin path _ (shard_number path) ss inside refl given
+    (IsOneMap-kept (IsRow g.S.Source.given_path g.S.Source.given_outcome g.S.Source.given_bytes) g.S.Source.given_path g.S.Source.given_origin path _ (shard_number path) ss inside refl given
     (c.in_ok-opener.ensures.opened_here ∙ ap Some (sym c.read-given.ensures.same_origin)) (IsUntouched-new ss path c.requires)
     (rw (← kept) c.in-Ok.ensures.valid) (IsUntouched-IsOneMap g.S.Source.given_path g.S.Source.given_origin ss c.requires))
 
@@ -39,7 +39,7 @@ returns-in-Ok-clause-looked g c =
     let path = c.of_normal-path.result in
     let ss = c.args.store.now in
     let main : path ≡ c.args.command.now.main = search rules in
-    let inside = shard_inside g.S.Source.given_path (asked_also path) path ss c.ask.new.self c.in_ok-opener.ensures.ok c.in_ok-opener.ensures.valid in
+    let inside = shard_inside (IsRow g.S.Source.given_path g.S.Source.given_outcome g.S.Source.given_bytes) (asked_also path) path ss c.ask.new.self c.in_ok-opener.ensures.ok c.in_ok-opener.ensures.valid in
     rw (asked_then_kept path _ ss c.ask.new.self c.add.new.self refl c.in_ok-opener.ensures.ok c.in-Ok.ensures.ok)
     (looked_one _ path c.args.command.now.main (one_asked (asked_and_kept path _) path (shard_number path) ss inside (λ s. refl) c.requires) main)
 
@@ -48,26 +48,26 @@ returns-in-Ok-clause-end g c =
     let path = c.of_normal-path.result in
     let ss = c.args.store.now in
     let main : path ≡ c.args.command.now.main = search rules in
-    let inside = shard_inside g.S.Source.given_path (asked_also path) path ss c.ask.new.self c.in_ok-opener.ensures.ok c.in_ok-opener.ensures.valid in
+    let inside = shard_inside (IsRow g.S.Source.given_path g.S.Source.given_outcome g.S.Source.given_bytes) (asked_also path) path ss c.ask.new.self c.in_ok-opener.ensures.ok c.in_ok-opener.ensures.valid in
     rw (asked_then_kept path _ ss c.ask.new.self c.add.new.self refl c.in_ok-opener.ensures.ok c.in-Ok.ensures.ok)
-    (IsEnd-read _ c.args.command.now path (g.S.Source.given_outcome c.read-given.result) (g.S.Source.given_bytes c.read-given.result) c.end_of_unit-end.result main
+    (IsEnd-read _ c.args.command.now path (stands_for (is_some c.reading-answer.result.1) (g.S.Source.given_outcome c.read-given.result) (g.S.Source.given_bytes c.read-given.result)) _ c.end_of_unit-end.result main
     (file_map-kept g.S.Source.given_outcome g.S.Source.given_bytes path _ (shard_number path) ss inside refl (IsUntouched-LacksPath ss path c.requires))
-    (rw (c.outcome.ensures.value, c.bytes.ensures.value) at c.end_of_unit-end.ensures))
+    (rw (c.outcome.ensures.value, c.bytes.ensures.value) at c.reading-answer.ensures.answer) c.end_of_unit-end.ensures)
 
-pub returns-in-Err-clause-one_map : goal.returns-in-Err-clause-one_map
-returns-in-Err-clause-one_map g c =
+pub returns-clause-one_map : goal.returns-clause-one_map
+returns-clause-one_map g c =
     let path = c.of_normal-path.result in
     let ss = c.args.store.now in
-    let inside = shard_inside g.S.Source.given_path (asked_also path) path ss c.ask.new.self c.in_ok-opener.ensures.ok c.in_ok-opener.ensures.valid in
+    let inside = shard_inside (IsRow g.S.Source.given_path g.S.Source.given_outcome g.S.Source.given_bytes) (asked_also path) path ss c.ask.new.self c.in_ok-opener.ensures.ok c.in_ok-opener.ensures.valid in
     rw (c.in-Err.ensures.err.1, c.in_ok-opener.ensures.ok)
-    (IsOneMap-asked g.S.Source.given_path g.S.Source.given_origin path (shard_number path) ss inside (IsUntouched-new ss path c.requires)
+    (IsOneMap-asked (IsRow g.S.Source.given_path g.S.Source.given_outcome g.S.Source.given_bytes) g.S.Source.given_path g.S.Source.given_origin path (shard_number path) ss inside (IsUntouched-new ss path c.requires)
     (rw (← c.in_ok-opener.ensures.ok) c.in_ok-opener.ensures.valid) (IsUntouched-IsOneMap g.S.Source.given_path g.S.Source.given_origin ss c.requires))
 
-pub returns-in-Err-clause-looked : goal.returns-in-Err-clause-looked
-returns-in-Err-clause-looked g c =
+pub returns-clause-looked : goal.returns-clause-looked
+returns-clause-looked g c =
     let path = c.of_normal-path.result in
     let ss = c.args.store.now in
     let main : path ≡ c.args.command.now.main = search rules in
-    let inside = shard_inside g.S.Source.given_path (asked_also path) path ss c.ask.new.self c.in_ok-opener.ensures.ok c.in_ok-opener.ensures.valid in
+    let inside = shard_inside (IsRow g.S.Source.given_path g.S.Source.given_outcome g.S.Source.given_bytes) (asked_also path) path ss c.ask.new.self c.in_ok-opener.ensures.ok c.in_ok-opener.ensures.valid in
     rw (c.in-Err.ensures.err.1, c.in_ok-opener.ensures.ok)
     (looked_one _ path c.args.command.now.main (one_asked (asked_also path) path (shard_number path) ss inside (λ s. refl) c.requires) main)

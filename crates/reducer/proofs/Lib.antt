@@ -1,0 +1,11 @@
+pub mod TextLemmas
+pub mod ReducedLemmas
+pub mod SpotLemmas
+pub mod LeftLemmas
+pub mod OrderLemmas
+pub mod TokenLemmas
+pub mod KeptLemmas
+pub mod PassLemmas
+pub mod TurnLemmas
+pub mod WordLemmas
+pub mod FrontLemmas

@@ -1,0 +1,29 @@
+use Rattle.std.proofs.Common.{◌∙◌, arith}
+use Rattle.line_splice.specs.Cursor.{rest}
+use Rattle.reducer.proofs.PassLemmas.{passed_smaller, passed_text, passed_line, line_less}
+use Rattle.reducer.proofs.reduction.pass_line.Goals as goal
+
+pub tokens-smaller : goal.tokens-smaller
+tokens-smaller c = passed_smaller c.tokens.at.text.now (rest c.tokens.at) (rest c.pass_token.new.at) c.tokens-test.ensures.passed
+
+pub tokens-preserved : goal.tokens-preserved
+tokens-preserved c =
+    let less = passed_smaller c.tokens.at.text.now (rest c.tokens.at) (rest c.pass_token.new.at) c.tokens-test.ensures.passed in
+    record {
+      same = c.pass_token.ensures.text ∙ c.tokens.invariant.same;
+      kept = λ before h.
+          let k = c.tokens.invariant.kept before h in
+          let more = passed_text c.args.at.now.text.now c.tokens.at.text.now k.0 (rest c.tokens.at) (rest c.pass_token.new.at) c.tokens.invariant.same c.tokens-test.ensures.passed k.1 in
+          (more.0, more.1, k.2 ∙ more.2);
+      less = omega (arith, less, c.tokens.invariant.less);
+    }
+
+pub returns-clause-kept : goal.returns-clause-kept
+returns-clause-kept c before h =
+    let k = c.tokens.invariant.kept before h in
+    k.2 ∙ passed_line c.args.at.now.text.now c.tokens.at.text.now k.0 (rest c.tokens.at) (rest c.pass_token.new.at) (rest c.pass_newline.new.at) c.tokens.invariant.same c.tokens-test.ensures.passed c.pass_newline.ensures.rest k.1
+
+pub returns-clause-less : goal.returns-clause-less
+returns-clause-less c =
+    let less = line_less (rest c.tokens.at) (rest c.pass_token.new.at) (rest c.pass_newline.new.at) c.tokens-test.ensures.passed.1 c.pass_newline.ensures.rest in
+    omega (arith, less, c.tokens.invariant.less)

@@ -1,0 +1,31 @@
+use Rattle.std.proofs.Common.{◌∙◌, sym, arith}
+use Rattle.line_splice.specs.Cursor.{rest}
+use Rattle.reducer.proofs.PassLemmas.{blanks_kept, blanks_less, on_ok, passed_front, blanks_stop, first_smaller}
+use Rattle.reducer.proofs.reduction.reduce_line.Goals as goal
+
+pub returns-then-begins_text-clause-kept : goal.returns-then-begins_text-clause-kept
+returns-then-begins_text-clause-kept c =
+    let at = rest c.pass_blanks.new.at in
+    let text = c.args.text.now in
+    blanks_kept text c.args.lines.now.items _ (rest c.args.at.now) at c.pass_blanks.ensures.rest
+    (passed_front text c.pass_blanks.new.at.text.now c.pass_token.new.at.text.now c.args.lines.now.items at (rest c.pass_token.new.at) (rest c.pass_line.new.at) c.pass_token.result
+    (c.pass_blanks.ensures.text ∙ c.requires) (c.pass_token.ensures.text ∙ c.pass_blanks.ensures.text ∙ c.requires)
+    (blanks_stop (rest c.args.at.now) at c.pass_blanks.ensures.rest) (sym c.begins_text.ensures ∙ c.if-begins_text.true) c.pass_token.ensures.passed c.pass_line.ensures.kept)
+
+pub returns-then-begins_text-clause-less : goal.returns-then-begins_text-clause-less
+returns-then-begins_text-clause-less c =
+    let start = rest c.args.at.now in
+    let at = rest c.pass_blanks.new.at in
+    let less = first_smaller c.pass_blanks.new.at.text.now at (rest c.pass_token.new.at) c.pass_token.result (blanks_stop start at c.pass_blanks.ensures.rest)
+    (sym c.begins_text.ensures ∙ c.if-begins_text.true) c.pass_token.ensures.passed in
+    let blanks = blanks_less start at c.pass_blanks.ensures.rest in
+    omega (arith, less, blanks, c.pass_line.ensures.less)
+
+pub returns-clause-kept : goal.returns-clause-kept
+returns-clause-kept c =
+    on_ok c.read_line.result _ _ (blanks_kept c.args.text.now c.args.lines.now.items _ (rest c.args.at.now) (rest c.pass_blanks.new.at) c.pass_blanks.ensures.rest) c.read_line.ensures.kept
+
+pub returns-clause-less : goal.returns-clause-less
+returns-clause-less c =
+    let blanks = blanks_less (rest c.args.at.now) (rest c.pass_blanks.new.at) c.pass_blanks.ensures.rest in
+    on_ok c.read_line.result _ _ (λ less. omega (arith, less, blanks)) c.read_line.ensures.less

@@ -1,0 +1,37 @@
+-- What the first tokens of a line tell of it ([cpp.pre]).
+use Rattle.std.specs.Prelude.{◌≡◌, ℕ, Bool, true, false, not, ◌&&◌, ◌==◌, List, [], ◌∷◌, codes}
+use Rattle.std.specs.List.{filter, list_any}
+use Rattle.scan_model.specs.declared.token.Tok.{Tok}
+use Rattle.scan_model.specs.declared.token.Line.{Line}
+use Rattle.scan_model.specs.Spliced.{Spot}
+use Rattle.scan_model.specs.Spelling.{spells, is_one_of}
+use Rattle.scan_model.specs.Tokens.{begins}
+use Rattle.scan_model.specs.Lines.{begins_directive, is_directive, lines_from}
+
+-- these tokens are too few to tell: with further ones they may begin a directive
+abbrev pub may_begin : List Tok → Bool
+may_begin [] = true
+may_begin (t ∷ []) = is_one_of ("import" ∷ "module" ∷ "export" ∷ []) t.text
+may_begin (t ∷ u ∷ []) = spells "export" t.text && is_one_of ("import" ∷ "module" ∷ []) u.text
+may_begin (t ∷ u ∷ v ∷ ts) = false
+
+-- a line with these first tokens is no directive, whatever follows
+abbrev pub is_text : List Tok → Bool
+is_text ts = not (begins_directive ts) && not (may_begin ts)
+
+-- the lines of what is left that are directives, after the tokens `before` of the first one
+abbrev pub kept_from : List ℕ → List Tok → List Spot → List Line
+kept_from text before spots = filter is_directive (lines_from text before spots)
+
+-- The line of which `s` is left is passed, and `left` follows it: after tokens that make no directive, nothing of it is kept.
+abbrev pub IsPassed : List ℕ → List Spot → List Spot → Type 0
+IsPassed text s left = (before : List Tok) → is_text before ≡ true → kept_from text before s ≡ kept_from text [] left
+
+-- a token with which a directive may begin stands here, or a longer one that begins with it
+abbrev pub may_begin_directive : List Spot → Bool
+may_begin_directive s = list_any (λ word. begins (codes word) s) ("#" ∷ "%:" ∷ "import" ∷ "module" ∷ "export" ∷ [])
+
+-- a token stands here that tells at a line's front that the line is no directive
+abbrev pub begins_text : List Spot → Bool
+begins_text [] = false
+begins_text (spot ∷ spots) = not (spot.byte == 10) && not (may_begin_directive (spot ∷ spots))

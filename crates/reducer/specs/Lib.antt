@@ -1,0 +1,4 @@
+pub mod ReducedLines
+pub mod Answers
+pub mod Views
+pub mod Directives
