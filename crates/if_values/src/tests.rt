@@ -325,7 +325,11 @@ fn depths(rt: HostRuntime) -> Result<(), Fail> {
     assert!(rt; is_one(nested(alloc, "0 ? 2 :", "", 256)?));
     assert_eq!(rt; nested(alloc, "0 ? 2 :", "", 257)?, deep);
     assert!(rt; is_one(nested(alloc, "( - - ", ")", 256)?));
-    assert!(rt; is_one(nested(alloc, "1 *", "", 300000)?));
+    let sum = CondValue {
+        bits: 1_000_001,
+        unsigned: false,
+    };
+    assert_eq!(rt; nested(alloc, "1 +", "", 1_000_000)?, Ok(sum));
     Ok(())
 }
 
