@@ -1,0 +1,5 @@
+pub mod TableLemmas
+pub mod Utf8Lemmas
+pub mod QuotedLemmas
+pub mod RawLemmas
+pub mod JoiningLemmas
