@@ -1,5 +1,5 @@
 -- A step of a merge, in tables that grow.
-use Rattle.std.proofs.Common.{◌≡◌, sym, ◌∙◌, ap, ℕ, ◌<◌, Bool, true, false, List, ◌∷◌, get_or, [], arith}
+use Rattle.std.proofs.Common.{◌≡◌, sym, ◌∙◌, ap, ℕ, ◌<◌, true, false, List, ◌∷◌, get_or, [], arith}
 use Rattle.scan_model.specs.Expansion.{also}
 use Rattle.hide_sets.specs.Sets.{Sets, IsSet, names_of, latest_of, has_name, hides_of, Extends, Makes}
 use Rattle.hide_sets.proofs.Growing.{Extends-on, names_of-Extends, hides_of-Extends}

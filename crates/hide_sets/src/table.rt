@@ -95,6 +95,9 @@ impl HideSets {
         ensures err { OnErr result (Extends self.old self.new) }
     {
         let shared = self.shared(first, second);
+        if shared.is_same(second) {
+            return Ok(second);
+        }
         let mut made = shared;
         let mut at = first;
         'names: while !at.is_same(shared) && !at.is_empty() {
@@ -113,6 +116,13 @@ impl HideSets {
         ensures ok { IfOk result (Makes self.old self.new (λ name. hides_of self.old first name || hides_of self.old second name)) }
         ensures err { OnErr result (Extends self.old self.new) }
     {
+        let shared = self.shared(first, second);
+        if shared.is_same(first) {
+            return Ok(second);
+        }
+        if shared.is_same(second) {
+            return Ok(first);
+        }
         let mut made = first;
         let mut left = first;
         let mut right = second;

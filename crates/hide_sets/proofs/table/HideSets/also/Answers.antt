@@ -1,7 +1,6 @@
-use Rattle.std.proofs.Common.{◌≡◌, sym, ◌∙◌, ap, refl, List, ℕ, [], ◌∷◌, ◌++◌, ◌≤◌, length, arith, rules}
-use Rattle.std.proofs.lemmas.List.{length_push}
+use Rattle.std.proofs.Common.{◌≡◌, ◌∙◌, ap, refl, List, ℕ, [], ◌∷◌, ◌++◌, ◌≤◌, length, arith, rules}
 use Rattle.hide_sets.specs.declared.table.Node.{Node}
-use Rattle.hide_sets.specs.Nodes.{sets_from, IsTree}
+use Rattle.hide_sets.specs.Nodes.{sets_from}
 use Rattle.hide_sets.proofs.Tree.{length-sets, IsTree-pushed, also-made, sets-name}
 use Rattle.hide_sets.proofs.table.HideSets.also.Goals as goal
 

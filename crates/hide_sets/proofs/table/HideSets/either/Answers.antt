@@ -1,6 +1,6 @@
-use Rattle.std.proofs.Common.{◌≡◌, arith}
+use Rattle.std.proofs.Common.{arith}
 use Rattle.scan_model.specs.Expansion.{also}
-use Rattle.hide_sets.specs.Sets.{hides_of, latest_of, Extends, Makes}
+use Rattle.hide_sets.specs.Sets.{hides_of, latest_of, Makes}
 use Rattle.hide_sets.proofs.Growing.{Extends-on}
 use Rattle.hide_sets.proofs.Steps.{uniting-with, uniting-without}
 use Rattle.hide_sets.proofs.table.HideSets.either.Goals as goal

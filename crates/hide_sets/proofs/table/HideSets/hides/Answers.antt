@@ -1,4 +1,4 @@
-use Rattle.std.proofs.Common.{◌≡◌, ◌∙◌, ap, sym, arith, Bool, List, ℕ}
+use Rattle.std.proofs.Common.{◌∙◌, ap, sym, arith}
 use Rattle.hide_sets.specs.Sets.{hides_of, has_name}
 use Rattle.hide_sets.proofs.Search.{hides-latest, hides-rest}
 use Rattle.hide_sets.proofs.table.HideSets.hides.Goals as goal

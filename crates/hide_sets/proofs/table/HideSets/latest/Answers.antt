@@ -1,4 +1,4 @@
-use Rattle.std.proofs.Common.{◌≡◌, ◌<◌, ◌-◌, ◌+◌, suc, length, arith, ◌∙◌, subst, sym, get_or}
+use Rattle.std.proofs.Common.{◌≡◌, ◌<◌, ◌-◌, suc, length, arith, subst, sym, get_or}
 use Rattle.hide_sets.specs.declared.table.Node.{Node}
 use Rattle.hide_sets.proofs.Tree.{length-sets, latest-step}
 use Rattle.hide_sets.proofs.table.HideSets.latest.Goals as goal

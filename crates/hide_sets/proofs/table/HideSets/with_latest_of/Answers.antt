@@ -1,6 +1,6 @@
-use Rattle.std.proofs.Common.{◌≡◌, sym, ◌∙◌, ap, refl, List, ℕ, [], ◌∷◌, ◌++◌, ◌<◌, ◌≤◌, ◌-◌, suc, length, get_or, arith}
+use Rattle.std.proofs.Common.{◌≡◌, sym, ◌∙◌, ap, refl, List, ℕ, [], ◌<◌, ◌≤◌, ◌-◌, suc, length, get_or, arith}
 use Rattle.hide_sets.specs.declared.table.Node.{Node}
-use Rattle.hide_sets.specs.Sets.{names_of, latest_of}
+use Rattle.hide_sets.specs.Sets.{latest_of}
 use Rattle.hide_sets.proofs.Tree.{length-sets, IsTree-node, node-made, node-names, node-name}
 use Rattle.hide_sets.proofs.table.HideSets.with_latest_of.Goals as goal
 
