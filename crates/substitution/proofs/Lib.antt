@@ -1,2 +1,3 @@
 pub mod StringLemmas
 pub mod MeaningLemmas
+pub mod JoinLemmas
