@@ -1,6 +1,8 @@
 //! A macro's replacement list with its arguments put in ([cpp.subst], [cpp.stringize], [cpp.concat]).
 #![tactic(auto)]
 
+mod call;
+mod copies;
 mod item;
 mod joins;
 mod marked;

@@ -1,3 +1,5 @@
+ghost use Rattle.std.specs.Prelude.{◌≡◌, unwrap_or};
+
 use hide_sets::HideSet;
 use scan_model::{Items, Tok};
 
@@ -15,4 +17,16 @@ pub struct Arg {
     pub written: Items<Marked>,
     /// Fully replaced by itself; none where it isn't, and then it is taken as written everywhere.
     pub replaced: Option<Items<Marked>>,
+}
+
+impl Arg {
+    /// The argument as it stands where it is neither `#`'s nor `##`'s.
+    pub(crate) fn replaced(&self) -> &[Marked]
+        ensures { result.now ≡ unwrap_or self.now.replaced self.now.written }
+    {
+        match &self.replaced {
+            Some(replaced) => replaced.as_slice(),
+            None => self.written.as_slice(),
+        }
+    }
 }
