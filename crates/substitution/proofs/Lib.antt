@@ -1,0 +1,5 @@
+pub mod StringLemmas
+pub mod MeaningLemmas
+pub mod JoinLemmas
+pub mod CallLemmas
+pub mod AddLemmas

@@ -1,0 +1,4 @@
+pub mod Strings
+pub mod Meaning
+pub mod Joins
+pub mod Calls
