@@ -1,0 +1,6 @@
+pub mod Lookups
+pub mod Changes
+pub mod HeadLemmas
+pub mod Distinct
+pub mod Ends
+pub mod Defines
