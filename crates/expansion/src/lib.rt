@@ -1,1 +1,11 @@
+//! Macro replacement ([cpp.replace], [cpp.rescan]): the tokens of a line or of text, with every macro replaced.
 #![tactic(auto)]
+
+mod todo;
+mod scope;
+mod machine;
+mod copies;
+mod replacement;
+mod token_tests;
+
+pub use scan_model::{Expanded, Mode, Site};
