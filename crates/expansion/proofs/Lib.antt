@@ -1,1 +1,4 @@
 pub mod ListLemmas
+pub mod StateLemmas
+pub mod RescanLemmas
+pub mod CallLemmas

@@ -1,5 +1,8 @@
 -- What a state of the machine stands for.
-use Rattle.std.specs.Prelude.{◌≡◌, ℕ, ◌+◌, ◌-◌, ◌^◌, ◌<◌, ◌≤◌, Bool, List, map, length, sum_by, All}
+use Rattle.std.specs.Prelude.{◌≡◌, ℕ, ◌+◌, ◌-◌, ◌^◌, ◌<◌, ◌≤◌, Bool, List, [], ◌∷◌, ◌++◌, map, length, sum_by, All, Vec, Option}
+use Rattle.std.specs.Option.{option_map}
+use Rattle.std.specs.declared.alloc.Global.{Global}
+use Rattle.substitution.specs.declared.marked.Marked.{Marked}
 use Rattle.hide_sets.specs.Sets.{Sets, IsSet, hides_of}
 use Rattle.macro_table.specs.Table.{macros_of}
 use Rattle.scan_model.specs.declared.expansion.Expanded.{Expanded}
@@ -23,7 +26,7 @@ scope_of s = record { defs = (macros_of s.macros.now).defs; site = s.site.now; m
 -- ## Calls
 
 abbrev pub written_of : Sets → Written → meaning.Written
-written_of sets w = record { list = all_marked_of sets w.list; replaced = w.replaced }
+written_of sets w = record { list = all_marked_of sets w.list.items; replaced = w.replaced }
 
 abbrev pub call_of : Sets → Call → meaning.Call
 call_of sets c = record {
@@ -31,7 +34,7 @@ call_of sets c = record {
   name = marked_of sets c.name;
   close = hides_of sets c.close;
   args = map (arg_of sets) c.args.items;
-  further = map (written_of sets) c.further;
+  further = map (written_of sets) c.further.items;
   before = all_marked_of sets c.before.items;
   rest = all_marked_of sets c.rest;
 }
@@ -44,7 +47,7 @@ pub record IsCall (sets : Sets) (c : Call) : Type 0 where
   pub name : IsMarked sets c.name
   pub close : IsSet sets c.close
   pub args : All (IsArg sets) c.args.items
-  pub further : All (λ w. AreMarked sets w.list) c.further
+  pub further : All (λ w. AreMarked sets w.list.items) c.further.items
   pub before : AreMarked sets c.before.items
   pub rest : AreMarked sets c.rest
 
@@ -52,9 +55,9 @@ pub record IsPending (sets : Sets) (p : Pending) : Type 0 where
   pub call : IsCall sets p.call
   pub written : AreMarked sets p.written.items
 
--- what comes of the call when it has its arguments
+-- what comes of the call by what comes of its further arguments
 abbrev pub ran_of_call : expansion.Scope → Sets → Call → ℕ → ℕ → Ran
-ran_of_call e sets c cost counter = call_ran e (call_of sets c) (args_of e (map (written_of sets) c.further) cost counter)
+ran_of_call e sets c cost counter = call_ran e (call_of sets c) (args_of e (map (written_of sets) c.further.items) cost counter)
 
 -- ## The machine
 
@@ -76,22 +79,40 @@ pub record IsMachine (m : Machine) : Type 0 where
 -- ## How much is left to do
 
 abbrev pub weight_of_written : Written → ℕ
-weight_of_written w = 1 + length w.list
+weight_of_written w = 1 + length w.list.items
 
 abbrev pub weight_of_call : Call → ℕ
-weight_of_call c = length c.rest + sum_by weight_of_written c.further
+weight_of_call c = length c.rest + sum_by weight_of_written c.further.items
+
+-- without the list that the machine is at
+abbrev pub weight_beside : Machine → ℕ
+weight_beside m = (cost_limit - m.cost) + sum_by (λ p. weight_of_call p.call) m.calls.items
 
 abbrev pub weight : Machine → ℕ
-weight m = length m.todo + (cost_limit - m.cost) + sum_by (λ p. weight_of_call p.call) m.calls.items
+weight m = length m.todo + weight_beside m
 
 -- ## A turn
 
--- the machine goes on to this end, with no more left to do than this
+-- the machine goes on to this end, with less left to do than this
 pub record GoesOn (e : expansion.Scope) (ran : Ran) (most : ℕ) (m : Machine) : Type 0 where
   pub valid : IsMachine m
-  pub less : weight m ≤ most
+  pub less : weight m < most
   pub same : ran_of e m ≡ ran
 
 abbrev pub Turns : expansion.Scope → Ran → ℕ → Machine → Turn → Type 0
 Turns e ran most m Goes = GoesOn e ran most m
 Turns e ran most m (Ends answer) = answer ≡ answer_of ran
+
+-- what comes of the whole list, by what comes of an innermost call that the machine has taken out
+abbrev pub around : expansion.Scope → Machine → Ran → Ran
+around e m ran = all_resumed e (map (pending_of m.sets) m.calls.items) ran
+
+-- the call with one more argument that is done
+pub record AddsArg (old : Call) (written : Vec Marked Global) (replaced : Option (Vec Marked Global)) (new : Call) : Type 0 where
+  pub definition : new.definition ≡ old.definition
+  pub name : new.name ≡ old.name
+  pub close : new.close ≡ old.close
+  pub args : new.args.items ≡ old.args.items ++ record { written = written.items; replaced = option_map (λ v. v.items) replaced } ∷ []
+  pub further : new.further.items ≡ old.further.items
+  pub before : new.before.items ≡ old.before.items
+  pub rest : new.rest ≡ old.rest

@@ -4,6 +4,8 @@
 mod todo;
 mod scope;
 mod machine;
+mod objects;
+mod calls;
 mod copies;
 mod replacement;
 mod token_tests;
