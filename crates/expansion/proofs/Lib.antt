@@ -2,3 +2,4 @@ pub mod ListLemmas
 pub mod StateLemmas
 pub mod RescanLemmas
 pub mod CallLemmas
+pub mod StepLemmas

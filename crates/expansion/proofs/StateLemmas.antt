@@ -128,7 +128,7 @@ rescanned-grown e m sets added added' list list' x h a l =
 
 -- ## Turns to the same end
 
-turn-along : (e : expansion.Scope) (ran ran' : Ran) (most most' : ℕ) (m : Machine) (turn : Turn) → ran ≡ ran' → most ≤ most' → Turns e ran most m turn → Turns e ran' most' m turn
+pub turn-along : (e : expansion.Scope) (ran ran' : Ran) (most most' : ℕ) (m : Machine) (turn : Turn) → ran ≡ ran' → most ≤ most' → Turns e ran most m turn → Turns e ran' most' m turn
 turn-along e ran ran' most most' m Goes h le t = record { valid = t.valid; less = omega (arith, t.less); same = t.same ∙ h }
 turn-along e ran ran' most most' m (Ends answer) h le t = t ∙ ap expansion.answer_of h
 

@@ -5,6 +5,7 @@ mod todo;
 mod scope;
 mod machine;
 mod objects;
+mod built_ins;
 mod calls;
 mod copies;
 mod replacement;

@@ -1,5 +1,1 @@
-pub mod StringLemmas
 pub mod MeaningLemmas
-pub mod JoinLemmas
-pub mod CallLemmas
-pub mod AddLemmas

@@ -1,4 +1,1 @@
-pub mod Strings
 pub mod Meaning
-pub mod Joins
-pub mod Calls
