@@ -3,3 +3,5 @@ pub mod StateLemmas
 pub mod RescanLemmas
 pub mod CallLemmas
 pub mod StepLemmas
+pub mod CutLemmas
+pub mod DefinedLemmas

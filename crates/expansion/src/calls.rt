@@ -1,21 +1,54 @@
 ghost use Rattle.std.specs.Prelude.{◌≡◌, ◌+◌, [], IfOk, length, map};
+ghost use Rattle.scan_model.specs.Parentheses.{in_parens};
 ghost use Rattle.scan_model.specs.Expansion as expansion;
 ghost use Rattle.scan_model.specs.Expansion.{Args, Went};
-ghost use Rattle.substitution.specs.Meaning.{all_marked_of, AreMarked};
+ghost use Rattle.substitution.specs.Meaning.{marked_of, all_marked_of, IsMarked, AreMarked};
 ghost use Rattle.expansion_laws.specs.Turns.{expands};
 ghost use Rattle.expansion.specs.Meaning.{call_ran, resumed};
 ghost use Rattle.expansion.specs.States.{AddsArg, IsMachine, IsCall, Turns, around, continued, call_of, ran_of_call, weight, weight_beside, weight_of_call};
 
 use crate::copies::copy_list;
+use crate::cuts::{flagged, written_args};
 use crate::machine::{Call, Machine, Pending, Turn};
+use crate::parens::{Parens, take_parens};
 use crate::replacement::of_call;
 use crate::todo::Todo;
-use scan_model::{Expanded, Items, NoMemory, Tok};
+use scan_model::{Expanded, FunctionDef, Items, NoMemory, Tok};
 use std::alloc::Global;
 use std::mem;
 use substitution::{Arg, Marked};
 
 impl<'a> Machine<'a> {
+    /// The name of a function-like macro and a `(` are a call, which is replaced.
+    pub(crate) fn call(
+        &mut self,
+        definition: &'a FunctionDef,
+        name: Marked,
+    ) -> Result<Turn, NoMemory>
+        requires valid { IsMachine self.old }
+        requires name { IsMarked self.old.sets name }
+        ensures { IfOk result (λ turn. (e : expansion.Scope) → Turns e (continued e self.old (expansion.call (expands e) e definition.now (marked_of self.old.sets name) self.old.cost self.old.counter (in_parens (λ m. m.tok) (all_marked_of self.old.sets self.old.todo)))) (weight self.old + 1) self.new turn) }
+    {
+        let Some(Parens { inside, close }) = take_parens(self.alloc, &mut self.todo)? else {
+            return Ok(Turn::Ends(Expanded::Bad));
+        };
+        let Some(args) = written_args(self.alloc, definition, inside)? else {
+            return Ok(Turn::Ends(Expanded::Bad));
+        };
+        let further = flagged(self.alloc, definition, args)?;
+        let before = mem::replace(&mut self.out, Vec::new(self.alloc));
+        let rest = mem::replace(&mut self.todo, Todo::new(self.alloc));
+        self.next_arg(Call {
+            definition,
+            name,
+            close: close.hides,
+            args: Vec::new(self.alloc),
+            further,
+            before,
+            rest,
+        })
+    }
+
     /// Nothing is left of the list: it was the whole, or an argument of the innermost call.
     pub(crate) fn end_list(&mut self) -> Result<Turn, NoMemory>
         requires valid { IsMachine self.old }

@@ -1,4 +1,5 @@
-ghost use Rattle.std.specs.Prelude.{◌≡◌, ◌++◌, [], OnOk, option_to_list};
+ghost use Rattle.std.specs.Prelude.{◌≡◌, ◌++◌, [], OnOk, option_to_list, drop, slice_get};
+ghost use Rattle.std.specs.Option.{option_copied};
 ghost use Rattle.hide_sets.specs.Sets.{IsSet, hides_of, Extends};
 ghost use Rattle.substitution.specs.Meaning.{AreMarked};
 ghost use Rattle.expansion.specs.Lists.{is_called, PutsBefore};
@@ -47,6 +48,26 @@ impl Todo {
         ensures { self.old ≡ option_to_list result ++ self.new }
     {
         self.reversed.pop()
+    }
+
+    /// The token at a place, of which the next has 0.
+    pub(crate) fn at(&self, place: usize) -> Option<&Marked>
+        ensures { option_copied result ≡ slice_get self.now place }
+    {
+        let length = self.reversed.len();
+        if place < length {
+            Some(&self.reversed[length - 1 - place])
+        } else {
+            None
+        }
+    }
+
+    /// Takes off this many tokens.
+    pub(crate) fn skip(&mut self, count: usize)
+        ensures { self.new ≡ drop count self.old }
+    {
+        let length = self.reversed.len();
+        self.reversed.truncate(length.saturating_sub(count));
     }
 
     /// Whether a `(` comes next.

@@ -34,3 +34,19 @@ pub returns-in_ok-text-in-Cplusplus : goal.returns-in_ok-text-in-Cplusplus
 returns-in_ok-text-in-Cplusplus c =
     gives-as c.gives-in-Cplusplus.result (scope_of c.args.scope.now) c.args.self.now _ c.args.name _ BuiltInIs.Cplusplus Number _ _ c.in-Cplusplus.is
     (c.in_ok-text-in-Cplusplus.ensures) refl c.gives-in-Cplusplus.ensures
+
+pub returns-in-HasInclude : goal.returns-in-HasInclude
+returns-in-HasInclude c =
+    let m = c.args.self.now in
+    let e = scope_of c.args.scope.now in
+    turns-at c.goes_out.result e _ _ _ _ _
+    (ap (λ (b : BuiltIn). continued e m (built_in (expands e) e b (marked_of m.sets c.args.name) (all_marked_of m.sets m.todo) m.cost m.counter)) (sym c.in-HasInclude.is))
+    (omega arith) c.goes_out.ensures
+
+pub returns-in-HasAttribute : goal.returns-in-HasAttribute
+returns-in-HasAttribute c =
+    let m = c.args.self.now in
+    let e = scope_of c.args.scope.now in
+    turns-at c.goes_out-in-HasAttribute.result e _ _ _ _ _
+    (ap (λ (b : BuiltIn). continued e m (built_in (expands e) e b (marked_of m.sets c.args.name) (all_marked_of m.sets m.todo) m.cost m.counter)) (sym c.in-HasAttribute.is))
+    (omega arith) c.goes_out-in-HasAttribute.ensures
