@@ -5,3 +5,5 @@ pub mod CallLemmas
 pub mod StepLemmas
 pub mod CutLemmas
 pub mod DefinedLemmas
+pub mod CallBegins
+pub mod StartLemmas

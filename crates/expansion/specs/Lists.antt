@@ -2,6 +2,7 @@
 use Rattle.std.specs.Prelude.{◌≡◌, ℕ, Bool, true, false, ◌&&◌, if◌then◌else◌, List, [], ◌∷◌, ◌++◌, map, Option, Some, None, codes}
 use Rattle.scan_model.specs.declared.token.Kind.TheVariants.{Ident}
 use Rattle.hide_sets.specs.Sets.{Sets}
+use Rattle.scan_model.specs.declared.token.Tok.{Tok}
 use Rattle.scan_model.specs.TokenTests.{is_of, is_open_paren, is_close_paren}
 use Rattle.scan_model.specs.Expansion.{hidden_by}
 use Rattle.substitution.specs.declared.marked.Marked.{Marked}
@@ -27,3 +28,7 @@ defined_at [] = None
 
 abbrev pub digit_of : Bool → List ℕ
 digit_of is_defined = if is_defined then codes "1" else codes "0"
+
+-- a token that hides no name
+abbrev pub unhidden : Tok → Marked
+unhidden t = record { tok = t; hides = 0 }

@@ -2,7 +2,7 @@ ghost use Rattle.std.specs.Prelude.{◌≡◌, ◌+◌, ◌≤◌, IfOk, IfSome,
 ghost use Rattle.std.specs.Option.{option_map};
 ghost use Rattle.hide_sets.specs.Sets.{Sets};
 ghost use Rattle.scan_model.specs.MacroDefinition.{all_params};
-ghost use Rattle.scan_model.specs.Expansion.{cut_at_commas, written_args};
+ghost use Rattle.scan_model.specs.Expansion.{cut_at_commas, plain_args, variadic_args, written_args};
 ghost use Rattle.substitution.specs.Meaning.{all_marked_of, AreMarked};
 ghost use Rattle.expansion.specs.Cuts.{all_lists_of, flagged, size, AreKnown};
 ghost use Rattle.expansion.specs.States.{written_of, weight_of_written};
@@ -26,7 +26,55 @@ pub(crate) fn written_args(
     ensures size { IfOk result (λ args. IfSome args (λ args. size args.items ≤ length inside.items + 2)) }
     ensures value { IfOk result (λ args. (sets : Sets) → option_map (λ args. all_lists_of sets args.items) args ≡ written_args definition.now (all_marked_of sets inside.items)) }
 {
-    Err(NoMemory)
+    let count = definition.params.as_slice().len();
+    if definition.variadic.is_some() {
+        return variadic_args(alloc, count, inside);
+    }
+    plain_args(alloc, count, inside)
+}
+
+/// One argument for each of so many parameters; none for no parameter.
+fn plain_args(
+    alloc: Global,
+    count: usize,
+    inside: Vec<Marked>,
+) -> Result<Option<Vec<Vec<Marked>>>, NoMemory>
+    ensures known { IfOk result (λ args. IfSome args (λ args. (sets : Sets) → AreMarked sets inside.items → AreKnown sets args.items)) }
+    ensures size { IfOk result (λ args. IfSome args (λ args. size args.items ≤ length inside.items + 2)) }
+    ensures value { IfOk result (λ args. (sets : Sets) → option_map (λ args. all_lists_of sets args.items) args ≡ plain_args count (all_marked_of sets inside.items)) }
+{
+    if count == 0 {
+        if inside.is_empty() {
+            return Ok(Some(Vec::new(alloc)));
+        }
+        return Ok(None);
+    }
+    let args = cut_at_commas(alloc, inside.len(), inside)?;
+    if args.len() == count {
+        return Ok(Some(args));
+    }
+    Ok(None)
+}
+
+/// The same, and then the variable part, whose comma may be missing.
+fn variadic_args(
+    alloc: Global,
+    count: usize,
+    inside: Vec<Marked>,
+) -> Result<Option<Vec<Vec<Marked>>>, NoMemory>
+    ensures known { IfOk result (λ args. IfSome args (λ args. (sets : Sets) → AreMarked sets inside.items → AreKnown sets args.items)) }
+    ensures size { IfOk result (λ args. IfSome args (λ args. size args.items ≤ length inside.items + 2)) }
+    ensures value { IfOk result (λ args. (sets : Sets) → option_map (λ args. all_lists_of sets args.items) args ≡ variadic_args count (all_marked_of sets inside.items)) }
+{
+    let mut args = cut_at_commas(alloc, count, inside)?;
+    if args.len() == count {
+        args.push(Vec::new(alloc))?;
+        return Ok(Some(args));
+    }
+    if args.len() > count && args.len() - 1 == count {
+        return Ok(Some(args));
+    }
+    Ok(None)
 }
 
 /// The list cut at its first commas outside parentheses, at most this many.

@@ -9,10 +9,12 @@ mod built_ins;
 mod calls;
 mod cuts;
 mod defined;
+mod run;
 mod parens;
 mod turns;
 mod copies;
 mod replacement;
 mod token_tests;
 
+pub use run::expand;
 pub use scan_model::{Expanded, Mode, Site};

@@ -1,4 +1,4 @@
-ghost use Rattle.std.specs.Prelude.{◌≡◌, ◌++◌, [], OnOk, option_to_list, drop, slice_get};
+ghost use Rattle.std.specs.Prelude.{◌≡◌, [], ◌∷◌, OnOk, MatchOption, drop, slice_get};
 ghost use Rattle.std.specs.Option.{option_copied};
 ghost use Rattle.hide_sets.specs.Sets.{IsSet, hides_of, Extends};
 ghost use Rattle.substitution.specs.Meaning.{AreMarked};
@@ -45,7 +45,7 @@ impl Todo {
     }
 
     pub(crate) fn next(&mut self) -> Option<Marked>
-        ensures { self.old ≡ option_to_list result ++ self.new }
+        ensures { MatchOption result ((self.old ≡ []) × (self.new ≡ [])) (λ m. self.old ≡ m ∷ self.new) }
     {
         self.reversed.pop()
     }
