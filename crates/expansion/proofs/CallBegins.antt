@@ -1,13 +1,10 @@
 -- A call is cut into its arguments.
-use Rattle.std.proofs.Common.{◌≡◌, sym, ◌∙◌, ap, subst, refl, ℕ, ◌+◌, ◌≤◌, Bool, true, false, if◌then◌else◌, List, [], ◌∷◌, ◌++◌, map, length, arith}
+use Rattle.std.proofs.Common.{◌≡◌, sym, ◌∙◌, ap, subst, refl, ℕ, ◌+◌, Bool, if◌then◌else◌, List, [], ◌∷◌, ◌++◌, map, length, arith}
 use Rattle.std.specs.Prelude.{Option, Some, None, Vec, All}
-use Rattle.std.specs.Option.{option_map}
 use Rattle.std.specs.declared.alloc.Global.{Global}
-use Rattle.std.specs.Borrow.{Bor}
 use Rattle.std.proofs.lemmas.List.{length-append}
 use Rattle.std.proofs.lemmas.List.Elements.{All-head, All-tail, All-nil, All-cons, All-same}
 use Rattle.hide_sets.specs.Sets.{Sets, hides_of}
-use Rattle.scan_model.specs.declared.expansion.Expanded.{Expanded}
 use Rattle.scan_model.specs.declared.expansion.Expanded.TheVariants as Gives
 use Rattle.scan_model.specs.declared.macros.FunctionDef.{FunctionDef}
 use Rattle.scan_model.specs.MacroDefinition.{all_params}
@@ -21,7 +18,6 @@ use Rattle.substitution.specs.declared.marked.Arg.{Arg}
 use Rattle.substitution.specs.Meaning.{marked_of, all_marked_of, arg_of, IsMarked, AreMarked}
 use Rattle.expansion_laws.specs.Turns.{expands}
 use Rattle.expansion.specs.declared.parens.Parens.{Parens}
-use Rattle.expansion.specs.declared.machine.Written.{Written}
 use Rattle.expansion.specs.declared.machine.Call.{Call}
 use Rattle.expansion.specs.declared.machine.Machine.{Machine}
 use Rattle.expansion.specs.Cuts.{Encloses, TakesParens, all_lists_of, flagged}

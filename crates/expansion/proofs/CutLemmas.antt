@@ -1,12 +1,12 @@
 -- What parentheses enclose, and lists cut at commas, token by token.
-use Rattle.std.proofs.Common.{◌≡◌, sym, ◌∙◌, ap, subst, refl, ℕ, zero, suc, ◌+◌, ◌-◌, ◌<◌, ◌≤◌, Bool, true, false, not, ◌&&◌, ◌==◌, if◌then◌else◌, List, [], ◌∷◌, ◌++◌, map, length, append_assoc, arith}
-use Rattle.std.specs.Prelude.{Option, Some, None, Vec, sum_by, All}
+use Rattle.std.proofs.Common.{◌≡◌, sym, ◌∙◌, ap, subst, refl, ℕ, zero, suc, ◌+◌, ◌-◌, ◌<◌, ◌≤◌, Bool, true, false, ◌&&◌, ◌==◌, if◌then◌else◌, List, [], ◌∷◌, ◌++◌, length, append_assoc, arith}
+use Rattle.std.specs.Prelude.{Option, Some, None, Vec}
 use Rattle.std.specs.Option.{option_map}
 use Rattle.std.specs.List.{onto_first}
 use Rattle.std.specs.declared.alloc.Global.{Global}
 use Rattle.std.proofs.lemmas.List.{append-nil, map-append, length-append}
 use Rattle.std.proofs.lemmas.List.Sums.{sum_by_push}
-use Rattle.std.proofs.lemmas.List.Elements.{All-append, All-nil, All-push, All-head, All-tail, All-same}
+use Rattle.std.proofs.lemmas.List.Elements.{All-nil, All-push, All-head, All-tail, All-same}
 use Rattle.hide_sets.specs.Sets.{Sets}
 use Rattle.scan_model.specs.Substitution as spec
 use Rattle.scan_model.specs.TokenTests.{is_comma, is_open_paren, is_close_paren}

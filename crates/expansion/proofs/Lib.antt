@@ -7,3 +7,4 @@ pub mod CutLemmas
 pub mod DefinedLemmas
 pub mod CallBegins
 pub mod StartLemmas
+pub mod FlagLemmas

@@ -1,10 +1,10 @@
 -- Lists of tokens with their hide sets, put together and taken apart.
-use Rattle.std.proofs.Common.{◌≡◌, sym, ◌∙◌, ap, subst, refl, ℕ, Bool, ◌||◌, List, [], ◌∷◌, ◌++◌, map, append_assoc}
-use Rattle.std.specs.Prelude.{reverse, Some}
-use Rattle.std.proofs.lemmas.List.{map-append, reverse-append}
-use Rattle.std.proofs.lemmas.List.Elements.{All-append, All-cons, All-head, All-tail, All-push, All-pop}
+use Rattle.std.proofs.Common.{◌≡◌, sym, ◌∙◌, ap, subst, ℕ, Bool, ◌||◌, List, [], ◌∷◌, ◌++◌, map, append_assoc}
+use Rattle.std.specs.Prelude.{Some}
+use Rattle.std.proofs.lemmas.List.{map-append}
+use Rattle.std.proofs.lemmas.List.Elements.{All-cons, All-pop}
 use Rattle.hide_sets.specs.Sets.{Sets, IsSet, hides_of, Extends, Makes}
-use Rattle.hide_sets.proofs.Growing.{Extends-itself, Extends-on, hides_of-Extends, IsSet-Extends}
+use Rattle.hide_sets.proofs.Growing.{Extends-itself, Extends-on, hides_of-Extends}
 use Rattle.scan_model.specs.Substitution as spec
 use Rattle.scan_model.specs.Expansion.{hidden_by}
 use Rattle.substitution.specs.declared.marked.Marked.{Marked}

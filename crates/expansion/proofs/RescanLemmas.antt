@@ -1,6 +1,6 @@
 -- What a replacement does to the machine: it fails, costs too much, or puts a list before the rest.
-use Rattle.std.proofs.Common.{◌≡◌, sym, ◌∙◌, ap, refl, ℕ, ◌+◌, ◌-◌, ◌<◌, ◌≤◌, nat_lt, Bool, true, false, if◌then◌else◌, List, [], ◌∷◌, ◌++◌, map, length, arith}
-use Rattle.std.specs.Prelude.{Option, Some, None, sum_by}
+use Rattle.std.proofs.Common.{◌≡◌, sym, ◌∙◌, ap, refl, ℕ, ◌+◌, ◌-◌, ◌<◌, ◌≤◌, nat_lt, Bool, true, false, if◌then◌else◌, List, ◌++◌, map, length, arith}
+use Rattle.std.specs.Prelude.{Option, Some, None}
 use Rattle.std.specs.Option.{option_map}
 use Rattle.std.proofs.lemmas.Bool.{ltb-true, ltb-false}
 use Rattle.std.proofs.lemmas.List.{length-append, length-map}
@@ -11,12 +11,12 @@ use Rattle.scan_model.specs.Substitution as spec
 use Rattle.scan_model.specs.Expansion as expansion
 use Rattle.scan_model.specs.Expansion.{Ran, Failed, paid, cost_limit, answer_of, rescanned, hidden_by}
 use Rattle.substitution.specs.declared.marked.Marked.{Marked}
-use Rattle.substitution.specs.Meaning.{all_marked_of, AreMarked}
+use Rattle.substitution.specs.Meaning.{all_marked_of}
 use Rattle.substitution.proofs.MeaningLemmas.{AreMarked-Extends}
 use Rattle.expansion_laws.specs.Turns.{expands}
 use Rattle.expansion.specs.declared.machine.Machine.{Machine}
 use Rattle.expansion.specs.Lists.{PutsBefore}
-use Rattle.expansion.specs.States.{IsMachine, GoesOn, continued, weight, weight_of_call}
+use Rattle.expansion.specs.States.{IsMachine, GoesOn, continued, weight}
 use Rattle.expansion.proofs.StateLemmas.{continued-failed, continued-grown, ArePending-grown}
 
 -- ## What is paid

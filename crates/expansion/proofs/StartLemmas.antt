@@ -1,5 +1,5 @@
 -- Where the machine starts.
-use Rattle.std.proofs.Common.{◌≡◌, sym, ◌∙◌, ap, subst, refl, ℕ, ◌^◌, ◌<◌, ◌≤◌, ◌+◌, ◌-◌, List, [], ◌∷◌, map, arith}
+use Rattle.std.proofs.Common.{◌≡◌, sym, ◌∙◌, ap, subst, refl, ℕ, ◌^◌, ◌<◌, List, [], ◌∷◌, map, arith}
 use Rattle.std.specs.Prelude.{All}
 use Rattle.std.proofs.lemmas.List.Elements.{All-nil, All-cons}
 use Rattle.hide_sets.specs.Sets.{Sets}
@@ -15,10 +15,10 @@ use Rattle.expansion_laws.proofs.TurnLemmas.{expands_list}
 use Rattle.expansion.specs.declared.machine.Machine.{Machine}
 use Rattle.expansion.specs.declared.machine.Pending.{Pending}
 use Rattle.expansion.specs.declared.machine.Turn.{Turn}
-use Rattle.expansion.specs.declared.machine.Turn.TheVariants.{Goes, Ends}
+use Rattle.expansion.specs.declared.machine.Turn.TheVariants.{Ends}
 use Rattle.expansion.specs.Lists.{unhidden}
 use Rattle.expansion.specs.Meaning.{outs, all_resumed}
-use Rattle.expansion.specs.States.{IsMachine, IsPending, Turns, continued, ran_of, pending_of}
+use Rattle.expansion.specs.States.{IsMachine, IsPending, Turns, ran_of, pending_of}
 use Rattle.expansion.proofs.CallLemmas.{outs-nil}
 
 marks : (toks : List Tok) → all_marked_of [] (map unhidden toks) ≡ map (λ t. record { tok = t; hides = spec.no_name }) toks

@@ -1,14 +1,13 @@
 -- What a state stands for, when its table of hide sets grows and when its list fails.
-use Rattle.std.proofs.Common.{◌≡◌, sym, ◌∙◌, ap, subst, refl, ℕ, suc, ◌<◌, Bool, List, [], ◌∷◌, ◌++◌, map, length, get_or, append_assoc, arith}
-use Rattle.std.specs.Prelude.{All, Option, Some, None, IfSome, IfOk, Result, Ok, Err, ◌≤◌, ◌+◌}
-use Rattle.std.specs.Option.{option_map}
+use Rattle.std.proofs.Common.{◌≡◌, ◌∙◌, ap, refl, ℕ, Bool, List, [], ◌∷◌, map, arith}
+use Rattle.std.specs.Prelude.{All, Option, Some, None, IfOk, Result, Ok, Err, ◌≤◌}
 use Rattle.scan_model.specs.declared.memory.NoMemory.{NoMemory}
 use Rattle.expansion.specs.declared.machine.Turn.{Turn}
 use Rattle.expansion.specs.declared.machine.Turn.TheVariants.{Goes, Ends}
 use Rattle.expansion_laws.specs.Turns.{expands}
-use Rattle.expansion.specs.Replacements.{GivesList}
+use Rattle.substitution.specs.Meaning.{GivesMarked}
 use Rattle.std.proofs.lemmas.List.Elements.{All-head, All-tail, All-weaker}
-use Rattle.hide_sets.specs.Sets.{Sets, IsSet, hides_of, Extends}
+use Rattle.hide_sets.specs.Sets.{Sets, Extends}
 use Rattle.hide_sets.proofs.Growing.{hides_of-Extends, IsSet-Extends}
 use Rattle.scan_model.specs.declared.expansion.Expanded.{Expanded}
 use Rattle.scan_model.specs.Substitution as spec
@@ -16,7 +15,7 @@ use Rattle.scan_model.specs.Expansion as expansion
 use Rattle.scan_model.specs.Expansion.{Ran, Went, Failed, Replaced, Args, NotReplaced, with_arg, rescanned}
 use Rattle.substitution.specs.declared.marked.Marked.{Marked}
 use Rattle.substitution.specs.declared.marked.Arg.{Arg}
-use Rattle.substitution.specs.Meaning.{marked_of, all_marked_of, arg_of, IsMarked, AreMarked, IsArg}
+use Rattle.substitution.specs.Meaning.{all_marked_of, arg_of, AreMarked, IsArg}
 use Rattle.substitution.proofs.MeaningLemmas.{marked_of-Extends, all_marked_of-Extends, AreMarked-Extends}
 use Rattle.expansion.specs.declared.machine.Written.{Written}
 use Rattle.expansion.specs.declared.machine.Call.{Call}
@@ -24,7 +23,7 @@ use Rattle.expansion.specs.declared.machine.Pending.{Pending}
 use Rattle.expansion.specs.declared.machine.Machine.{Machine}
 use Rattle.expansion.specs.Meaning as meaning
 use Rattle.expansion.specs.Meaning.{outs, with_args, args_of, call_ran, resumed, all_resumed}
-use Rattle.expansion.specs.States.{written_of, call_of, pending_of, IsCall, IsPending, IsMachine, continued, Turns, GoesOn}
+use Rattle.expansion.specs.States.{written_of, call_of, pending_of, IsCall, IsPending, IsMachine, continued, Turns}
 
 -- ## What fails
 
@@ -109,7 +108,7 @@ continued-grown e m sets ran x h =
     ∙ ap (λ (o : List spec.Marked). all_resumed e (map (pending_of m.sets) m.calls.items) (outs o ran)) (all_marked_of-Extends m.sets sets m.out.items x h.out)
 
 -- the list that a replacement gives, in a larger table
-pub GivesList-grown : (sets sets' : Sets) (list : Option (List spec.Marked)) (given : Option (List Marked)) → Extends sets sets' → GivesList sets list given → GivesList sets' list given
+pub GivesList-grown : (sets sets' : Sets) (list : Option (List spec.Marked)) (given : Option (List Marked)) → Extends sets sets' → GivesMarked sets list given → GivesMarked sets' list given
 GivesList-grown sets sets' list None x h = record { known = h.known; meant = h.meant }
 GivesList-grown sets sets' list (Some ms) x h =
     let some : List spec.Marked → Option (List spec.Marked) = λ (l : List spec.Marked). Some l in

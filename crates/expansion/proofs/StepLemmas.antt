@@ -1,10 +1,9 @@
 -- The turns of single tokens.
-use Rattle.std.proofs.Common.{◌≡◌, sym, ◌∙◌, ap, refl, ℕ, ◌+◌, ◌<◌, ◌≤◌, Bool, true, false, not, ◌&&◌, if◌then◌else◌, List, [], ◌∷◌, length, arith}
-use Rattle.std.specs.Prelude.{Option, Some, None, IfOk, Result, Ok, Err}
+use Rattle.std.proofs.Common.{◌≡◌, sym, ◌∙◌, ap, ℕ, ◌+◌, ◌≤◌, Bool, true, false, ◌&&◌, if◌then◌else◌, List, [], ◌∷◌, length, arith}
+use Rattle.std.specs.Prelude.{IfOk, Result, Ok, Err}
 use Rattle.scan_model.specs.declared.memory.NoMemory.{NoMemory}
 use Rattle.scan_model.specs.declared.token.Kind.{Kind}
 use Rattle.scan_model.specs.declared.token.Kind.TheVariants.{Ident}
-use Rattle.scan_model.specs.declared.macros.Def.{Def}
 use Rattle.scan_model.specs.declared.macros.BuiltIn.{BuiltIn}
 use Rattle.scan_model.specs.Spelling.{spells}
 use Rattle.scan_model.specs.TokenTests.{is_of}
@@ -12,7 +11,7 @@ use Rattle.scan_model.specs.Substitution as spec
 use Rattle.scan_model.specs.Expansion as expansion
 use Rattle.scan_model.specs.Expansion.{Ran, out, built_in, built_in_out, by_def, defined_out, defined_name, first_and_rest, in_condition, cost_limit}
 use Rattle.substitution.specs.declared.marked.Marked.{Marked}
-use Rattle.substitution.specs.Meaning.{marked_of, all_marked_of, IsMarked, AreMarked}
+use Rattle.substitution.specs.Meaning.{marked_of, all_marked_of, IsMarked}
 use Rattle.std.proofs.lemmas.List.Elements.{All-head, All-tail, All-same}
 use Rattle.expansion_laws.specs.Turns.{expands}
 use Rattle.expansion_laws.proofs.TurnLemmas.{expands_first, expands_none}

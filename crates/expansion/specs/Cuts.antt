@@ -1,6 +1,5 @@
 -- What a call's parentheses enclose, and its arguments.
-use Rattle.std.specs.Prelude.{◌≡◌, ℕ, ◌+◌, ◌≤◌, List, [], ◌∷◌, ◌++◌, map, length, sum_by, All, Option, Some, None, Vec}
-use Rattle.std.specs.Option.{option_map}
+use Rattle.std.specs.Prelude.{◌≡◌, ℕ, ◌+◌, List, [], ◌∷◌, ◌++◌, map, length, sum_by, All, Option, Some, None, Vec}
 use Rattle.std.specs.declared.alloc.Global.{Global}
 use Rattle.hide_sets.specs.Sets.{Sets}
 use Rattle.scan_model.specs.declared.macros.FunctionDef.{FunctionDef}

@@ -1,5 +1,5 @@
 -- What is left to do of an expansion, in the terms of its definition.
-use Rattle.std.specs.Prelude.{ℕ, Bool, List, [], ◌∷◌, ◌++◌, map, if◌then◌else◌}
+use Rattle.std.specs.Prelude.{ℕ, Bool, List, [], ◌∷◌, ◌++◌, if◌then◌else◌}
 use Rattle.scan_model.specs.declared.macros.FunctionDef.{FunctionDef}
 use Rattle.scan_model.specs.Substitution.{Marked, Arg}
 use Rattle.scan_model.specs.Expansion.{Scope, Ran, Went, Failed, Replaced, Args, NotReplaced, with_arg, after_arg, called}

@@ -1,11 +1,10 @@
 -- What a state of the machine stands for.
-use Rattle.std.specs.Prelude.{◌≡◌, ℕ, ◌+◌, ◌-◌, ◌^◌, ◌<◌, ◌≤◌, Bool, List, [], ◌∷◌, ◌++◌, map, length, sum_by, All, Vec, Option}
+use Rattle.std.specs.Prelude.{◌≡◌, ℕ, ◌+◌, ◌-◌, ◌^◌, ◌<◌, ◌≤◌, [], ◌∷◌, ◌++◌, map, length, sum_by, All, Vec, Option}
 use Rattle.std.specs.Option.{option_map}
 use Rattle.std.specs.declared.alloc.Global.{Global}
 use Rattle.substitution.specs.declared.marked.Marked.{Marked}
 use Rattle.hide_sets.specs.Sets.{Sets, IsSet, hides_of}
 use Rattle.macro_table.specs.Table.{macros_of}
-use Rattle.scan_model.specs.declared.expansion.Expanded.{Expanded}
 use Rattle.scan_model.specs.Expansion as expansion
 use Rattle.scan_model.specs.Expansion.{Ran, cost_limit, answer_of}
 use Rattle.substitution.specs.Meaning.{marked_of, all_marked_of, arg_of, IsMarked, AreMarked, IsArg}

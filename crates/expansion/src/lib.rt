@@ -13,7 +13,6 @@ mod run;
 mod parens;
 mod turns;
 mod copies;
-mod replacement;
 mod token_tests;
 
 pub use run::expand;

@@ -1,4 +1,4 @@
-use Rattle.std.proofs.Common.{sym, ◌∙◌, ap, refl, ◌<◌, ◌^◌, arith}
+use Rattle.std.proofs.Common.{◌∙◌, ap, refl, arith}
 use Rattle.scan_model.specs.Expansion.{answer_of}
 use Rattle.expansion.specs.declared.machine.Machine.{Machine}
 use Rattle.expansion.specs.States.{scope_of}

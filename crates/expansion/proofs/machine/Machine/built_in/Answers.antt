@@ -1,5 +1,5 @@
 use Rattle.std.proofs.Common.{◌∙◌, sym, ap, refl, arith}
-use Rattle.std.specs.Prelude.{codes, decimal}
+use Rattle.std.specs.Prelude.{decimal}
 use Rattle.scan_model.specs.declared.macros.BuiltIn.{BuiltIn}
 use Rattle.scan_model.specs.declared.macros.BuiltIn.TheVariants as BuiltInIs
 use Rattle.scan_model.specs.declared.token.Kind.TheVariants.{Str, Number}

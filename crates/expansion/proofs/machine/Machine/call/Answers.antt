@@ -1,16 +1,14 @@
-use Rattle.std.proofs.Common.{◌≡◌, sym, ◌∙◌, ap, subst, refl, ◌+◌, ◌≤◌, ℕ, List, [], ◌∷◌, length, arith}
-use Rattle.std.specs.Prelude.{Option, Some, None, Vec, All, IfSome}
+use Rattle.std.proofs.Common.{◌≡◌, sym, ◌∙◌, ap, subst, refl, ◌+◌, ◌≤◌, List, [], length, arith}
+use Rattle.std.specs.Prelude.{Option, Some, Vec, IfSome}
 use Rattle.std.specs.Option.{option_map}
 use Rattle.hide_sets.specs.Sets.{Sets}
 use Rattle.std.specs.declared.alloc.Global.{Global}
 use Rattle.std.proofs.lemmas.List.Elements.{All-nil, All-same}
 use Rattle.substitution.specs.declared.marked.Marked.{Marked}
-use Rattle.substitution.specs.declared.marked.Arg.{Arg}
-use Rattle.substitution.specs.Meaning.{all_marked_of, AreMarked, IsMarked, IsArg}
-use Rattle.expansion.specs.declared.parens.Parens.{Parens}
+use Rattle.substitution.specs.Meaning.{AreMarked, IsMarked, IsArg}
 use Rattle.expansion.specs.declared.machine.Call.{Call}
 use Rattle.expansion.specs.Cuts.{Encloses, TakesParens, all_lists_of, AreKnown, size}
-use Rattle.expansion.specs.States.{IsCall, weight, weight_beside, weight_of_call}
+use Rattle.expansion.specs.States.{weight, weight_beside, weight_of_call}
 use Rattle.expansion.proofs.StateLemmas.{turns-along}
 use Rattle.expansion.proofs.CallBegins.{call-unclosed, call-misfit, call-begins, known-parts, size-parts}
 use Rattle.expansion.proofs.machine.Machine.call.Goals as goal

@@ -1,5 +1,5 @@
-use Rattle.std.proofs.Common.{◌≡◌, sym, ◌∙◌, ap, refl, ◌+◌, ◌≤◌, ℕ, Bool, List, length, drop, arith, length-drop}
-use Rattle.std.specs.Prelude.{Option, Some, None, is_some, map}
+use Rattle.std.proofs.Common.{◌≡◌, sym, ◌∙◌, ap, refl, ℕ, List, length, drop, arith, length-drop}
+use Rattle.std.specs.Prelude.{Option, Some, None, is_some}
 use Rattle.std.specs.Option.{option_map, option_copied}
 use Rattle.std.specs.Borrow.{Bor}
 use Rattle.std.proofs.lemmas.List.Elements.{All-drop, All-same}
@@ -10,7 +10,7 @@ use Rattle.scan_model.specs.Expansion.{out, instead, defined_out}
 use Rattle.substitution.specs.declared.marked.Marked.{Marked}
 use Rattle.substitution.specs.Meaning.{marked_of, all_marked_of, IsMarked}
 use Rattle.expansion_laws.specs.Turns.{expands}
-use Rattle.expansion.specs.Lists.{defined_at, digit_of}
+use Rattle.expansion.specs.Lists.{digit_of}
 use Rattle.expansion.specs.States.{continued, scope_of}
 use Rattle.expansion.proofs.DefinedLemmas.{defined-means, found_in}
 use Rattle.expansion.proofs.StepLemmas.{turns-at}

@@ -1,9 +1,8 @@
-use Rattle.std.proofs.Common.{◌≡◌, sym, ◌∙◌, ap, subst, List, [], ◌∷◌, ◌++◌, arith}
+use Rattle.std.proofs.Common.{◌≡◌, ◌∙◌, ap, subst, [], arith}
 use Rattle.std.specs.Prelude.{Vec, Some, map}
 use Rattle.std.specs.declared.alloc.Global.{Global}
 use Rattle.std.proofs.lemmas.List.{nil_from_length}
 use Rattle.substitution.specs.declared.marked.Marked.{Marked}
-use Rattle.expansion.specs.declared.machine.Pending.{Pending}
 use Rattle.expansion.specs.States.{AddsArg}
 use Rattle.expansion.proofs.StateLemmas.{turns-along}
 use Rattle.expansion.proofs.CallLemmas.{end-whole, IsMachine-ended, IsPending-ended, weight_beside-ended, end-argument, IsCall-added, weight_of_call-added}

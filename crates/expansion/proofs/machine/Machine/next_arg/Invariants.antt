@@ -1,4 +1,4 @@
-use Rattle.std.proofs.Common.{◌≡◌, ◌≤◌, ℕ, length}
+use Rattle.std.proofs.Common.{◌≡◌, ◌≤◌, length}
 use Rattle.scan_model.specs.Expansion as expansion
 use Rattle.expansion.specs.States.{IsCall, ran_of_call, weight_of_call}
 use Rattle.expansion.proofs.machine.Machine.next_arg.Given as goal

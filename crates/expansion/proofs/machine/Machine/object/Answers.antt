@@ -1,4 +1,4 @@
-use Rattle.std.proofs.Common.{◌∙◌, ap, ℕ, List, Bool, arith}
+use Rattle.std.proofs.Common.{◌∙◌, ap, ℕ, List, arith}
 use Rattle.hide_sets.specs.Sets.{hides_of}
 use Rattle.hide_sets.proofs.Growing.{Extends-on, hides_of-Extends}
 use Rattle.scan_model.specs.Expansion.{also}
@@ -7,14 +7,14 @@ use Rattle.expansion.proofs.machine.Machine.object.Goals as goal
 
 pub rescan-requires-clause-valid : goal.rescan-requires-clause-valid
 rescan-requires-clause-valid c =
-    IsMachine-grown c.args.self.now c.also.new.self (Extends-on _ _ _ c.of_object.ensures.extended c.in_ok-added.ensures.ok.extended) c.requires.valid
+    IsMachine-grown c.args.self.now c.also.new.self (Extends-on _ _ _ c.substitute_object.ensures.extended c.in_ok-added.ensures.ok.extended) c.requires.valid
 
 pub returns : goal.returns
 returns c =
-    let first = c.of_object.ensures.extended in
+    let first = c.substitute_object.ensures.extended in
     let made = c.in_ok-added.ensures.ok in
     let given = GivesList-grown _ _ _ _ made.extended c.in_ok-list.ensures.value in
     turns-along c.rescan.result _ _ _ _ _
     (λ e. rescanned-grown e c.args.self.now c.also.new.self _ _ _ _ (Extends-on _ _ _ first made.extended) c.requires.valid
-      (made.meant ∙ ap (λ (t : List ℕ). also t (hides_of c.of_object.new.sets c.args.name.hides)) c.as_slice.ensures ∙ ap (also c.args.name.tok.text) (hides_of-Extends _ _ c.args.name.hides first c.requires.name)) given.meant)
+      (made.meant ∙ ap (λ (t : List ℕ). also t (hides_of c.substitute_object.new.sets c.args.name.hides)) c.as_slice.ensures ∙ ap (also c.args.name.tok.text) (hides_of-Extends _ _ c.args.name.hides first c.requires.name)) given.meant)
     (omega arith) c.rescan.ensures
