@@ -1,5 +1,5 @@
 -- Lists that grow.
-use Rattle.std.proofs.Common.{◌≡◌, sym, ◌∙◌, ap, subst, refl, ℕ, ◌<◌, List, [], ◌∷◌, ◌++◌, map, length, get_or, take, ◌+◌, arith, append_assoc}
+use Rattle.std.proofs.Common.{◌≡◌, sym, ◌∙◌, ap, subst, refl, ℕ, Bool, ◌<◌, List, [], ◌∷◌, ◌++◌, map, length, get_or, take, drop, ◌+◌, arith, append_assoc}
 use Rattle.std.proofs.lemmas.List.{map-append, append-nil, take_more}
 use Rattle.std.proofs.lemmas.List.Elements.{All-append}
 use Rattle.hide_sets.specs.Sets.{Sets, IsSet}
@@ -39,3 +39,12 @@ operands-more sets a b c marked i m h e k g p =
     let shape : map spec.Operand (all_marked_of sets (take (i + 1) marked)) ≡ map spec.Operand (all_marked_of sets (take i marked)) ++ spec.Operand (marked_of sets m) ∷ [] =
         ap (λ (s : List Marked). map spec.Operand (all_marked_of sets s)) more ∙ ap (map spec.Operand) (map-append (marked_of sets) (take i marked) (m ∷ [])) ∙ map-append spec.Operand (all_marked_of sets (take i marked)) (marked_of sets m ∷ []) in
     adds-same sets a c _ _ (sym shape) (adds-on sets a b c _ _ p (adds-one sets b c (Operand m) (spec.Operand (marked_of sets m)) g known refl))
+
+-- the first operand, with a space of its own, and the others
+pub spaced-more : (sets : Sets) (a b c : List Item) (space : Bool) (marked : List Marked) (m first : Marked) → 0 < length marked → m ≡ get_or marked 0 m → first ≡ m → b ≡ a ++ Operand (record first { tok = record first.tok { space = space } }) ∷ [] → AreMarked sets marked → Adds sets b c (map spec.Operand (all_marked_of sets (drop 1 marked))) → Adds sets a c (spec.items_of (spec.first_spaced space (all_marked_of sets marked)))
+spaced-more sets a b c space [] m first l e f g k p = absurd (omega arith)
+spaced-more sets a b c space (x ∷ xs) m first l e f g k p =
+    let same : first ≡ x = f ∙ e in
+    let known : IsMarked sets first = subst (IsMarked sets) (sym same) (k 0 x l) in
+    let item : spec.Operand (spec.spaced space (marked_of sets first)) ≡ spec.Operand (spec.spaced space (marked_of sets x)) = ap (λ (n : Marked). spec.Operand (spec.spaced space (marked_of sets n))) same in
+    adds-on sets a b c (spec.Operand (spec.spaced space (marked_of sets x)) ∷ []) _ (adds-one sets a b (Operand (record first { tok = record first.tok { space = space } })) _ g known item) p

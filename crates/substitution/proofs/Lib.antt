@@ -3,3 +3,4 @@ pub mod MeaningLemmas
 pub mod JoinLemmas
 pub mod CallLemmas
 pub mod AddLemmas
+pub mod ParensLemmas

@@ -1,10 +1,10 @@
 -- What the code's calls stand for, by a table of hide sets.
-use Rattle.std.specs.Prelude.{◌≡◌, ℕ, ◌<◌, Bool, true, false, not, ◌&&◌, List, [], ◌∷◌, ◌++◌, map, length, All, Option, Some, None, is_some, if◌then◌else◌}
+use Rattle.std.specs.Prelude.{◌≡◌, ℕ, ◌<◌, Bool, true, false, not, ◌&&◌, List, [], ◌∷◌, ◌++◌, map, length, All, Option, Some, None, is_some, if◌then◌else◌, slice_index_or, drop}
 use Rattle.hide_sets.specs.Sets.{Sets}
 use Rattle.scan_model.specs.declared.token.Tok.{Tok}
 use Rattle.std.specs.Borrow.{Bor}
 use Rattle.scan_model.specs.declared.macros.FunctionDef.{FunctionDef}
-use Rattle.scan_model.specs.TokenTests.{is_hash, is_paste}
+use Rattle.scan_model.specs.TokenTests.{is_hash, is_paste, begins_with}
 use Rattle.scan_model.specs.MacroDefinition.{all_params, is_opt}
 use Rattle.scan_model.specs.Expansion.{arg_named}
 use Rattle.scan_model.specs.Substitution as subst
@@ -67,3 +67,16 @@ abbrev pub opt_comes : subst.Call → Tok → List Tok → Bool
 opt_comes c t after =
     if c.function && is_hash t then opt_after_hash c after
     else not (is_paste t) && (not (is_some (subst.comma_part c t after)) && (is_some c.variadic && is_opt t))
+
+-- ## Parts
+
+-- what `, ## V` gives: the comma is t, the `##` and V begin what follows it
+abbrev pub comma_part_of : subst.Call → Tok → List Tok → subst.Arg → subst.Part
+comma_part_of c t after a = subst.part (subst.comma_items c t (slice_index_or after 1 t) a (begins_with is_paste (drop 2 after))) (drop 2 after)
+
+-- the string is added, where there is one
+abbrev pub AddsString : Sets → List Item → List Item → Option (List subst.Item) → Bool → Type 0
+AddsString sets old new None true = ⊥
+AddsString sets old new None false = new ≡ old
+AddsString sets old new (Some items) true = Adds sets old new items
+AddsString sets old new (Some items) false = ⊥

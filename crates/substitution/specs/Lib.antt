@@ -2,3 +2,4 @@ pub mod Strings
 pub mod Meaning
 pub mod Joins
 pub mod Calls
+pub mod Parens

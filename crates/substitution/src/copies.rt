@@ -91,7 +91,8 @@ fn add_spaced(
     let mut first = copy_marked(alloc, &marked[0])?;
     first.tok.space = space;
     items.push(Item::Operand(first))?;
-    add_all(alloc, items, &marked[1..])
+    add_all(alloc, items, &marked[1..])?;
+    Ok(())
 }
 
 fn add_all(alloc: Global, items: &mut Vec<Item>, marked: &[Marked]) -> Result<(), NoMemory>

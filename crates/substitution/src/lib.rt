@@ -6,6 +6,8 @@ mod copies;
 mod item;
 mod joins;
 mod marked;
+mod parens;
+mod parts;
 mod strings;
 mod token_tests;
 
