@@ -4,3 +4,4 @@ pub mod JoinLemmas
 pub mod CallLemmas
 pub mod AddLemmas
 pub mod ParensLemmas
+pub mod PartLemmas

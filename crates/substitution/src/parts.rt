@@ -1,4 +1,4 @@
-ghost use Rattle.std.specs.Prelude.{◌≡◌, ◌<◌, ◌||◌, [], ◌∷◌, Bool, true, false, Some, None, List, Option, IfOk, OnOk, IfSome, MatchOption, length, drop, slice_index_or, is_some};
+ghost use Rattle.std.specs.Prelude.{◌≡◌, ◌<◌, ◌&&◌, [], ◌∷◌, Bool, true, false, Some, None, List, Option, IfOk, OnOk, IfSome, MatchOption, length, drop, slice_index_or, is_some};
 ghost use Rattle.hide_sets.specs.Sets.{Sets};
 ghost use Rattle.scan_model.specs.declared.token.Tok.{Tok};
 ghost use Rattle.substitution.specs.Strings.{toks_of};
@@ -21,13 +21,20 @@ use std::alloc::Global;
 pub(crate) fn opt_comes(call: &Call, tok: &Tok, after: &[Tok]) -> bool
     ensures { (sets : Sets) → result ≡ opt_comes (call_of sets call.now) tok.now after.now }
 {
-    if call.is_function() && is_hash(tok) {
+    if is_hash_operator(call, tok) {
         return opt_after_hash(call, after);
     }
     !is_paste(tok)
         && comma_rule(call, tok, after).is_none()
         && call.is_variadic()
         && is_opt(tok)
+}
+
+/// Whether the token is the `#` of a function-like macro.
+pub(crate) fn is_hash_operator(call: &Call, tok: &Tok) -> bool
+    ensures { (sets : Sets) → result ≡ ((call_of sets call.now).function && is_hash tok.now) }
+{
+    call.is_function() && is_hash(tok)
 }
 
 fn opt_after_hash(call: &Call, after: &[Tok]) -> bool
@@ -63,7 +70,7 @@ pub(crate) fn add_part<'a>(
     requires { (sets : Sets) → opt_comes (call_of sets call.now) tok.now after.now ≡ false }
     ensures { IfOk result (λ end. (sets : Sets) → AreArgs sets call.now.args.now → (inner : List Tok → Option (List subst.Item)) → GivesPart sets items.old.items items.new.items (subst.one_part (call_of sets call.now) inner pasted tok.now after.now) end) }
 {
-    if call.is_function() && is_hash(tok) {
+    if is_hash_operator(call, tok) {
         return add_hash(alloc, items, call, tok, after);
     }
     if is_paste(tok) {
@@ -74,7 +81,12 @@ pub(crate) fn add_part<'a>(
         }));
     }
     if let Some(arg) = comma_rule(call, tok, after) {
-        return add_comma(alloc, items, call, tok, after, arg);
+        let rest = &after[2..];
+        add_comma(alloc, items, call, tok, &after[1], arg, begins_with_paste(rest))?;
+        return Ok(Some(PartEnd {
+            pasted: false,
+            after: rest,
+        }));
     }
     add_plain(alloc, items, call, pasted, tok, after)
 }
@@ -140,28 +152,24 @@ pub(crate) fn add_string(
 }
 
 /// Adds what `, ## V` stands for: nothing for an empty V, else the comma and V as if there were no `##`.
-fn add_comma<'a>(
+fn add_comma(
     alloc: Global,
     items: &mut Vec<Item>,
     call: &Call,
-    tok: &Tok,
-    after: &'a [Tok],
+    comma: &Tok,
+    variable: &Tok,
     arg: &Arg,
-) -> Result<Option<PartEnd<'a>>, NoMemory>
-    requires { 1 < length after.now }
-    ensures { IfOk result (λ end. (sets : Sets) → IsArg sets arg.now → GivesPart sets items.old.items items.new.items (Some (comma_part_of (call_of sets call.now) tok.now after.now (arg_of sets arg.now))) end) }
+    next_to_paste: bool,
+) -> Result<(), NoMemory>
+    ensures { OnOk result ((sets : Sets) → IsArg sets arg.now → Adds sets items.old.items items.new.items (subst.comma_items (call_of sets call.now) comma.now variable.now (arg_of sets arg.now) next_to_paste)) }
 {
-    let rest = &after[2..];
     if arg.written.as_slice().is_empty() {
         items.push(Item::Placemarker)?;
-    } else {
-        add_own(alloc, items, call, tok)?;
-        add_given(alloc, items, &after[1], arg, begins_with_paste(rest))?;
+        return Ok(());
     }
-    Ok(Some(PartEnd {
-        pasted: false,
-        after: rest,
-    }))
+    add_own(alloc, items, call, comma)?;
+    add_given(alloc, items, variable, arg, next_to_paste)?;
+    Ok(())
 }
 
 /// Adds a parameter's argument, or any other token as it is.
