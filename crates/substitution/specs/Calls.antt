@@ -80,3 +80,13 @@ AddsString sets old new None true = ⊥
 AddsString sets old new None false = new ≡ old
 AddsString sets old new (Some items) true = Adds sets old new items
 AddsString sets old new (Some items) false = ⊥
+
+-- what follows the word of `__VA_OPT__` or `# __VA_OPT__`
+abbrev pub after_word : subst.Call → Tok → List Tok → List Tok
+after_word c t after = if c.function && is_hash t then drop 1 after else after
+
+-- what `__VA_OPT__` gives, whose content has given the items; a string where `#`, the token t, stands before it
+abbrev pub opt_result : subst.Call → Bool → Tok → List subst.Item → Option (List subst.Item)
+opt_result c hashed t items =
+    if hashed then subst.string_of c t (subst.toks (subst.without_placemarkers items))
+    else Some (subst.first_item_spaced t.space (subst.or_placemarker items))

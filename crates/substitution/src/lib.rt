@@ -6,6 +6,7 @@ mod copies;
 mod item;
 mod joins;
 mod marked;
+mod optional;
 mod parens;
 mod parts;
 mod strings;

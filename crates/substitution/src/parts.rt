@@ -1,11 +1,11 @@
-ghost use Rattle.std.specs.Prelude.{◌≡◌, ◌<◌, ◌&&◌, [], ◌∷◌, Bool, true, false, Some, None, List, Option, IfOk, OnOk, IfSome, MatchOption, length, drop, slice_index_or, is_some};
+ghost use Rattle.std.specs.Prelude.{◌≡◌, ◌<◌, ◌≤◌, ◌&&◌, [], ◌∷◌, Bool, true, false, Some, None, List, Option, IfOk, OnOk, IfSome, MatchOption, length, drop, slice_index_or, is_some};
 ghost use Rattle.hide_sets.specs.Sets.{Sets};
 ghost use Rattle.scan_model.specs.declared.token.Tok.{Tok};
 ghost use Rattle.substitution.specs.Strings.{toks_of};
 ghost use Rattle.scan_model.specs.TokenTests.{is_hash, is_paste, begins_with};
 ghost use Rattle.scan_model.specs.Substitution as subst;
 ghost use Rattle.substitution.specs.Meaning.{arg_of, IsArg};
-ghost use Rattle.substitution.specs.Calls.{call_of, AreArgs, Adds, AddsString, GivesPart, comma_part_of, opt_after_hash, opt_comes};
+ghost use Rattle.substitution.specs.Calls.{call_of, AreArgs, Adds, AddsString, GivesPart, comma_part_of, opt_after_hash, opt_comes, after_word};
 
 use crate::call::{Call, PartEnd};
 use crate::copies::{add_given, add_own, own};
@@ -68,7 +68,8 @@ pub(crate) fn add_part<'a>(
     after: &'a [Tok],
 ) -> Result<Option<PartEnd<'a>>, NoMemory>
     requires { (sets : Sets) → opt_comes (call_of sets call.now) tok.now after.now ≡ false }
-    ensures { IfOk result (λ end. (sets : Sets) → AreArgs sets call.now.args.now → (inner : List Tok → Option (List subst.Item)) → GivesPart sets items.old.items items.new.items (subst.one_part (call_of sets call.now) inner pasted tok.now after.now) end) }
+    ensures shorter { IfOk result (λ end. IfSome end (λ end. length end.after.now ≤ length after.now)) }
+    ensures value { IfOk result (λ end. (sets : Sets) → AreArgs sets call.now.args.now → (inner : List Tok → Option (List subst.Item)) → GivesPart sets items.old.items items.new.items (subst.one_part (call_of sets call.now) inner pasted tok.now after.now) end) }
 {
     if is_hash_operator(call, tok) {
         return add_hash(alloc, items, call, tok, after);
@@ -100,7 +101,8 @@ fn add_hash<'a>(
     after: &'a [Tok],
 ) -> Result<Option<PartEnd<'a>>, NoMemory>
     requires { (sets : Sets) → opt_after_hash (call_of sets call.now) after.now ≡ false }
-    ensures { IfOk result (λ end. (sets : Sets) → AreArgs sets call.now.args.now → (inner : List Tok → Option (List subst.Item)) → GivesPart sets items.old.items items.new.items (subst.hash_part (call_of sets call.now) inner tok.now after.now) end) }
+    ensures shorter { IfOk result (λ end. IfSome end (λ end. length end.after.now ≤ length after.now)) }
+    ensures value { IfOk result (λ end. (sets : Sets) → AreArgs sets call.now.args.now → (inner : List Tok → Option (List subst.Item)) → GivesPart sets items.old.items items.new.items (subst.hash_part (call_of sets call.now) inner tok.now after.now) end) }
 {
     if after.is_empty() {
         add_own(alloc, items, call, tok)?;
@@ -181,7 +183,8 @@ fn add_plain<'a>(
     tok: &Tok,
     after: &'a [Tok],
 ) -> Result<Option<PartEnd<'a>>, NoMemory>
-    ensures { IfOk result (λ end. (sets : Sets) → AreArgs sets call.now.args.now → GivesPart sets items.old.items items.new.items (Some (subst.plain_part (call_of sets call.now) pasted tok.now after.now (subst.arg_at (call_of sets call.now) tok.now))) end) }
+    ensures shorter { IfOk result (λ end. IfSome end (λ end. length end.after.now ≤ length after.now)) }
+    ensures value { IfOk result (λ end. (sets : Sets) → AreArgs sets call.now.args.now → GivesPart sets items.old.items items.new.items (Some (subst.plain_part (call_of sets call.now) pasted tok.now after.now (subst.arg_at (call_of sets call.now) tok.now))) end) }
 {
     match call.arg_at(tok) {
         Some(arg) => add_given(alloc, items, tok, arg, pasted || begins_with_paste(after))?,
@@ -191,4 +194,15 @@ fn add_plain<'a>(
         pasted: false,
         after,
     }))
+}
+
+/// What follows the word of a `__VA_OPT__` or `# __VA_OPT__` that begins with the token.
+pub(crate) fn after_word<'a>(call: &Call, tok: &Tok, after: &'a [Tok]) -> &'a [Tok]
+    ensures shorter { length result.now ≤ length after.now }
+    ensures value { (sets : Sets) → result.now ≡ after_word (call_of sets call.now) tok.now after.now }
+{
+    if is_hash_operator(call, tok) && !after.is_empty() {
+        return &after[1..];
+    }
+    after
 }

@@ -9,8 +9,8 @@ use Rattle.substitution.specs.Calls.{call_of, GivesPart, AddsString}
 use Rattle.substitution.proofs.PartLemmas.{toks_of-meant, gives-string-by, gives-no_string, hash-argument, hash-other}
 use Rattle.substitution.proofs.parts.add_hash.Goals as goal
 
-pub returns-then-not-branch : goal.returns-then-not-branch
-returns-then-not-branch c = λ sets known inner.
+pub returns-then-not-branch-clause-value : goal.returns-then-not-branch-clause-value
+returns-then-not-branch-clause-value c = λ sets known inner.
     let call = call_of sets c.args.call.now in
     let some : 0 < length c.args.after.now = search rules in
     let shown : toks_of c.as_slice.result.now ≡ spec.toks (arg_of sets c.in-Some.arg.now).written = ap toks_of c.as_slice.ensures ∙ sym (toks_of-meant sets c.in-Some.arg.now.written) in
@@ -20,8 +20,8 @@ returns-then-not-branch c = λ sets known inner.
       (sym (hash-argument call inner c.args.tok.now c.args.after.now c.index-after-0.result (arg_of sets c.in-Some.arg.now) some c.index-after-0.is (c.in-Some.ensures.value sets)))
       (gives-no_string sets c.args.items.now.items c.add_string.new.items.items _ (drop 1 c.args.after.now) made)
 
-pub returns-else-not-branch : goal.returns-else-not-branch
-returns-else-not-branch c = λ sets known inner.
+pub returns-else-not-branch-clause-value : goal.returns-else-not-branch-clause-value
+returns-else-not-branch-clause-value c = λ sets known inner.
     let call = call_of sets c.args.call.now in
     let some : 0 < length c.args.after.now = search rules in
     let shown : toks_of c.as_slice.result.now ≡ spec.toks (arg_of sets c.in-Some.arg.now).written = ap toks_of c.as_slice.ensures ∙ sym (toks_of-meant sets c.in-Some.arg.now.written) in
@@ -31,8 +31,8 @@ returns-else-not-branch c = λ sets known inner.
       (hash-argument call inner c.args.tok.now c.args.after.now c.index-after-0.result (arg_of sets c.in-Some.arg.now) some c.index-after-0.is (c.in-Some.ensures.value sets))
       made refl (sym (take_rest c.args.after.now 1))
 
-pub returns-in_ok-add_own-in-None : goal.returns-in_ok-add_own-in-None
-returns-in_ok-add_own-in-None c = λ sets known inner.
+pub returns-in_ok-add_own-in-None-clause-value : goal.returns-in_ok-add_own-in-None-clause-value
+returns-in_ok-add_own-in-None-clause-value c = λ sets known inner.
     let call = call_of sets c.args.call.now in
     let some : 0 < length c.args.after.now = search rules in
     subst (λ (p : Option spec.Part). GivesPart sets c.args.items.now.items c.add_own-in-None.new.items.items p (Some (record { pasted = false; after = c.args.after })))

@@ -18,8 +18,8 @@ slice_bounds-rest-start c = let long : 1 < length c.args.after.now = (c.in-Some.
 pub bounds-after-1 : goal.bounds-after-1
 bounds-after-1 c = (c.in-Some.ensures.some []).0
 
-pub returns-in-Some : goal.returns-in-Some
-returns-in-Some c = λ sets known inner.
+pub returns-in-Some-clause-value : goal.returns-in-Some-clause-value
+returns-in-Some-clause-value c = λ sets known inner.
     let call = call_of sets c.args.call.now in
     let a = arg_of sets c.in-Some.arg.now in
     let rest = take_rest c.args.after.now 2 in
