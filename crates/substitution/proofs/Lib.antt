@@ -5,3 +5,5 @@ pub mod CallLemmas
 pub mod AddLemmas
 pub mod ParensLemmas
 pub mod PartLemmas
+pub mod OptionalLemmas
+pub mod ListLemmas

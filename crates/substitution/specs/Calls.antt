@@ -23,12 +23,13 @@ abbrev pub function_call : Sets → FunctionDef → List Arg → ℕ → subst.C
 function_call sets f args line =
     record { function = true; variadic = f.variadic; arg = arg_named (all_params f.params f.variadic) (map (arg_of sets) args); line = line }
 
+-- by the definition; none for an object-like macro
+abbrev pub call_by : Sets → List Arg → ℕ → Option (Bor FunctionDef) → subst.Call
+call_by sets args line None = object_call line
+call_by sets args line (Some f) = function_call sets f.now args line
+
 abbrev pub call_of : Sets → Call → subst.Call
 call_of sets c = call_by sets c.args.now c.line c.definition
-  where
-    call_by : Sets → List Arg → ℕ → Option (Bor FunctionDef) → subst.Call
-    call_by sets args line None = object_call line
-    call_by sets args line (Some f) = function_call sets f.now args line
 
 -- the table has the hide sets of the arguments
 abbrev pub AreArgs : Sets → List Arg → Type 0

@@ -58,3 +58,8 @@ pub record GivesItem (sets : Sets) (item : Option subst.Item) (given : Option It
 pub record GivesItems (sets : Sets) (items : Option (List subst.Item)) (given : Option (Vec Item Global)) : Type 0 where
   pub known : IfSome given (λ v. AreItems sets v.items)
   pub meant : option_map (λ v. items_of sets v.items) given ≡ items
+
+-- a list of tokens, where the definition gives one
+pub record GivesMarked (sets : Sets) (list : Option (List subst.Marked)) (given : Option (List Marked)) : Type 0 where
+  pub known : IfSome given (AreMarked sets)
+  pub meant : option_map (all_marked_of sets) given ≡ list

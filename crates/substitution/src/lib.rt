@@ -5,14 +5,17 @@ mod call;
 mod copies;
 mod item;
 mod joins;
+mod lists;
 mod marked;
 mod optional;
 mod parens;
 mod parts;
 mod strings;
+mod substitute;
 mod token_tests;
 
 pub use marked::{Arg, Marked};
+pub use substitute::{substitute_function, substitute_object};
 
 #[cfg(test)]
 mod tests;

@@ -1,4 +1,4 @@
-ghost use Rattle.std.specs.Prelude.{◌≡◌, IfOk, OnOk};
+ghost use Rattle.std.specs.Prelude.{◌≡◌, [], ◌∷◌, ◌++◌, if◌then◌else◌, IfOk, OnOk};
 ghost use Rattle.hide_sets.specs.Sets.{Sets};
 ghost use Rattle.scan_model.specs.Substitution as subst;
 ghost use Rattle.substitution.specs.Meaning.{item_of, items_of, all_marked_of, IsItem, AreItems, AreMarked};
@@ -26,7 +26,8 @@ pub(crate) fn add_opt(
 {
     if hashed {
         let marked = without_placemarkers(alloc, content)?;
-        return add_string(alloc, items, call, tok, marked.as_slice());
+        let made = add_string(alloc, items, call, tok, marked.as_slice())?;
+        return Ok(made);
     }
     add_content(items, tok.space, content)?;
     Ok(true)
@@ -43,12 +44,23 @@ pub(crate) fn without_placemarkers(
     let mut marked = Vec::new(alloc);
     let mut rest = items.into_iter();
     'items: while let Some(item) = rest.next() {
-        match item {
-            Item::Placemarker => {}
-            Item::Operand(token) | Item::Paste(token) => marked.push(token)?,
-        }
+        push_token(&mut marked, item)?;
     }
     Ok(marked)
+}
+
+/// Adds the item's token, if it stands for one.
+fn push_token(marked: &mut Vec<Marked>, item: Item) -> Result<(), NoMemory>
+    ensures known { OnOk result ((sets : Sets) → AreMarked sets marked.old.items → IsItem sets item → AreMarked sets marked.new.items) }
+    ensures value { OnOk result ((sets : Sets) → all_marked_of sets marked.new.items ≡ all_marked_of sets marked.old.items ++ subst.without_placemarkers (item_of sets item ∷ [])) }
+{
+    match item {
+        Item::Placemarker => Ok(()),
+        Item::Operand(token) | Item::Paste(token) => {
+            marked.push(token)?;
+            Ok(())
+        }
+    }
 }
 
 /// Adds the content of `__VA_OPT__`, whose first token takes this space; a placemarker for none.
@@ -62,9 +74,9 @@ fn add_content(items: &mut Vec<Item>, space: bool, content: Vec<Item>) -> Result
     let mut rest = content.into_iter();
     let mut first = true;
     'items: while let Some(item) = rest.next() {
-        let stands = stands(&item);
-        items.push(if first { spaced(space, item) } else { item })?;
-        first = first && !stands;
+        let further = first & !stands(&item);
+        items.push(spaced(first, space, item))?;
+        first = further;
     }
     Ok(())
 }
@@ -76,11 +88,14 @@ fn stands(item: &Item) -> bool
     !matches!(item, Item::Placemarker)
 }
 
-/// The item with this space, where it is a token.
-fn spaced(space: bool, item: Item) -> Item
+/// The item, which takes this space where it is the first token.
+fn spaced(first: bool, space: bool, item: Item) -> Item
     ensures known { (sets : Sets) → IsItem sets item → IsItem sets result }
-    ensures value { (sets : Sets) → item_of sets result ≡ item_spaced space (item_of sets item) }
+    ensures value { (sets : Sets) → item_of sets result ≡ (if first then item_spaced space (item_of sets item) else item_of sets item) }
 {
+    if !first {
+        return item;
+    }
     match item {
         Item::Placemarker => Item::Placemarker,
         Item::Operand(marked) => Item::Operand(marked_spaced(space, marked)),
