@@ -68,7 +68,9 @@ pub record Uniting (a b made left right : Names) : Type 0 where
 pub uniting-start : (a b : Names) → Uniting a b a a b
 uniting-start a b =
     record {
-      left_in = λ name h. h; first_in = λ name h. h; right_in = λ name h. h;
+      left_in = λ name h. h;
+      first_in = λ name h. h;
+      right_in = λ name h. h;
       within = λ name h. or_left (a name) (b name) h;
       rest = λ name h. or_right (a name) (b name) h;
     }
@@ -85,9 +87,9 @@ uniting-added a b made made' left right right' s e m u =
       right_in = λ name h. u.right_in name (also_keeps right right' s name e h);
       within = λ name h. ⊎_elim (u.within name) (λ k. or_right (a name) (b name) (u.right_in name (also_adds right right' s name e k))) (also_has made' made s name m h);
       rest = λ name h. ⊎_elim
-        (λ k. or_left (made' name) (right' name) (also_keeps made' made s name m k))
-        (λ k. ⊎_elim (or_right (made' name) (right' name)) (λ l. or_left (made' name) (right' name) (also_adds made' made s name m l)) (also_has right right' s name e k))
-        (or_parts (made name) (right name) (u.rest name h));
+          (λ k. or_left (made' name) (right' name) (also_keeps made' made s name m k))
+          (λ k. ⊎_elim (or_right (made' name) (right' name)) (λ l. or_left (made' name) (right' name) (also_adds made' made s name m l)) (also_has right right' s name e k))
+          (or_parts (made name) (right name) (u.rest name h));
     }
 
 pub uniting-skipped : (a b made left right right' : Names) (s : List ℕ) → right ≡ also s right' → true ≡ a s → Uniting a b made left right → Uniting a b made left right'
@@ -98,17 +100,17 @@ uniting-skipped a b made left right right' s e p u =
       right_in = λ name h. u.right_in name (also_keeps right right' s name e h);
       within = u.within;
       rest = λ name h. ⊎_elim
-        (or_left (made name) (right' name))
-        (λ k. ⊎_elim (or_right (made name) (right' name)) (λ l. or_left (made name) (right' name) (u.first_in name (to_same a s name l (sym p)))) (also_has right right' s name e k))
-        (or_parts (made name) (right name) (u.rest name h));
+          (or_left (made name) (right' name))
+          (λ k. ⊎_elim (or_right (made name) (right' name)) (λ l. or_left (made name) (right' name) (u.first_in name (to_same a s name l (sym p)))) (also_has right right' s name e k))
+          (or_parts (made name) (right name) (u.rest name h));
     }
 
 -- where the rest of one is the rest of the other
 pub uniting-end : (a b made left right : Names) → left ≡ right → Uniting a b made left right → made ≡ (λ name. a name || b name)
 uniting-end a b made left right e u = fun_ext (λ name.
     same_test (made name) (a name || b name) (u.within name) (λ h. ⊎_elim (u.first_in name)
-      (λ k. ⊎_elim (λ l. l) (λ l. u.first_in name (u.left_in name (ap (λ (f : Names). f name) e ∙ l))) (or_parts (made name) (right name) (u.rest name k)))
-      (or_parts (a name) (b name) h)))
+    (λ k. ⊎_elim (λ l. l) (λ l. u.first_in name (u.left_in name (ap (λ (f : Names). f name) e ∙ l))) (or_parts (made name) (right name) (u.rest name k)))
+    (or_parts (a name) (b name) h)))
 
 -- ## The common part
 
@@ -132,7 +134,8 @@ within-rest part rest whole s e w = record { has = λ name h. w.has name (also_k
 pub meeting-start : (a b shared : Names) → Within shared a → Within shared b → Meeting a b shared shared a
 meeting-start a b shared p q =
     record {
-      at_in = λ name h. h; shared_in = λ name h. h;
+      at_in = λ name h. h;
+      shared_in = λ name h. h;
       within = λ name h. and_both (a name) (b name) (p.has name h) (q.has name h);
       rest = λ name h. or_right (shared name) (a name) (and_first (a name) (b name) h);
     }
@@ -144,9 +147,9 @@ meeting-added a b made made' shared at at' s e m p u =
       shared_in = λ name h. also_keeps made' made s name m (u.shared_in name h);
       within = λ name h. ⊎_elim (u.within name) (λ k. and_both (a name) (b name) (u.at_in name (also_adds at at' s name e k)) (to_same b s name k (sym p))) (also_has made' made s name m h);
       rest = λ name h. ⊎_elim
-        (λ k. or_left (made' name) (at' name) (also_keeps made' made s name m k))
-        (λ k. ⊎_elim (or_right (made' name) (at' name)) (λ l. or_left (made' name) (at' name) (also_adds made' made s name m l)) (also_has at at' s name e k))
-        (or_parts (made name) (at name) (u.rest name h));
+          (λ k. or_left (made' name) (at' name) (also_keeps made' made s name m k))
+          (λ k. ⊎_elim (or_right (made' name) (at' name)) (λ l. or_left (made' name) (at' name) (also_adds made' made s name m l)) (also_has at at' s name e k))
+          (or_parts (made name) (at name) (u.rest name h));
     }
 
 pub meeting-skipped : (a b made shared at at' : Names) (s : List ℕ) → at ≡ also s at' → false ≡ b s → Meeting a b made shared at → Meeting a b made shared at'
@@ -156,9 +159,9 @@ meeting-skipped a b made shared at at' s e p u =
       shared_in = u.shared_in;
       within = u.within;
       rest = λ name h. ⊎_elim
-        (or_left (made name) (at' name))
-        (λ k. ⊎_elim (or_right (made name) (at' name)) (λ l. absurd (false≢true (p ∙ at_same b s name l (and_second (a name) (b name) h)))) (also_has at at' s name e k))
-        (or_parts (made name) (at name) (u.rest name h));
+          (or_left (made name) (at' name))
+          (λ k. ⊎_elim (or_right (made name) (at' name)) (λ l. absurd (false≢true (p ∙ at_same b s name l (and_second (a name) (b name) h)))) (also_has at at' s name e k))
+          (or_parts (made name) (at name) (u.rest name h));
     }
 
 -- where the walk has come to what they share, or to the end

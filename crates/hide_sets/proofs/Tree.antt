@@ -109,7 +109,7 @@ grown sets set name h =
 pub node-made : (names : List (List ℕ)) (nodes nodes' : List Node) (sets sets' : Sets) (name : List ℕ) (node : Node) (set : ℕ) → sets_from names [] nodes ≡ sets → nodes' ≡ nodes ++ node ∷ [] → sets' ≡ sets_from names [] nodes' → get_or names node.name [] ≡ name → node.parent ≤ length sets → set ≡ length nodes' → Makes sets sets' (also name (hides_of sets node.parent)) set
 node-made names nodes nodes' sets sets' name node set e q r n h l =
     let shape : sets' ≡ sets ++ (name ∷ names_of sets node.parent) ∷ [] =
-        r ∙ ap (sets_from names []) q ∙ sets_from-push names [] nodes node ∙ ap (λ (v : Sets). v ++ names_with names v node ∷ []) e ∙ ap (λ (s : List ℕ). sets ++ (s ∷ names_of sets node.parent) ∷ []) n in
+    r ∙ ap (sets_from names []) q ∙ sets_from-push names [] nodes node ∙ ap (λ (v : Sets). v ++ names_with names v node ∷ []) e ∙ ap (λ (s : List ℕ). sets ++ (s ∷ names_of sets node.parent) ∷ []) n in
     let count : set ≡ suc (length sets) = omega (arith, length-sets names nodes sets e, ap length q, length_push nodes node) in
     subst (λ (v : Sets). Makes sets v (also name (hides_of sets node.parent)) set) (sym shape) (subst (Makes sets (sets ++ (name ∷ names_of sets node.parent) ∷ []) (also name (hides_of sets node.parent))) (sym count) (grown sets node.parent name h))
 

@@ -21,8 +21,9 @@ use Rattle.substitution.specs.declared.call.PartEnd.{PartEnd}
 use Rattle.substitution.specs.Meaning.{arg_of, IsArg, item_of, items_of, IsItem, AreItems}
 use Rattle.substitution.specs.Calls.{call_by, call_of, AreArgs, Adds, AddsPart, AddsString, GivesPart, opt_after_hash, opt_comes, after_word, opt_result}
 use Rattle.substitution.proofs.MeaningLemmas.{all_marked_of-Extends, AreMarked-Extends, items_of-Extends, AreItems-Extends}
-use Rattle.substitution.proofs.JoinLemmas.{AreItems-nil}
-use Rattle.substitution.proofs.PartLemmas.{Inner, by_tests, by_hash, gives-string, gives-no_string}
+use Rattle.substitution.specs.declared.item.Item.TheVariants.{Placemarker}
+use Rattle.substitution.proofs.JoinLemmas.{AreItems-nil, AreItems-push}
+use Rattle.substitution.proofs.PartLemmas.{Inner, by_tests, gives-string-by, gives-no_string}
 
 -- ## Calls in tables that grow
 
@@ -44,7 +45,7 @@ args_of-Extends old new (a ∷ args) e h =
 call_by-Extends : (old new : Sets) (args : List Arg) (line : ℕ) (d : Option (Bor FunctionDef)) → Extends old new → AreArgs old args → call_by new args line d ≡ call_by old args line d
 call_by-Extends old new args line None e h = refl
 call_by-Extends old new args line (Some f) e h =
-    ap (λ (as : List spec.Arg). let made : spec.Call = record { function = true; variadic = f.now.variadic; arg = arg_named (all_params f.now.params f.now.variadic) as; line = line } in made) (args_of-Extends old new args e h)
+    ap (λ (given : List spec.Arg). let made : spec.Call = record { function = true; variadic = f.now.variadic; arg = arg_named (all_params f.now.params f.now.variadic) given; line = line } in made) (args_of-Extends old new args e h)
 
 pub call_of-Extends : (old new : Sets) (c : Call) → Extends old new → AreArgs old c.args.now → call_of new c ≡ call_of old c
 call_of-Extends old new c e h = call_by-Extends old new c.args.now c.line c.definition e h
@@ -188,3 +189,80 @@ opt-bad c inner pasted t after e h p o = part-shape c inner pasted t after h ∙
 
 pub opt-open : (c : spec.Call) (inner : Inner) (pasted : Bool) (t : Tok) (after : List Tok) → opt_comes c t after ≡ true → in_parens (λ t. t) (after_word c t after) ≡ None → spec.one_part c inner pasted t after ≡ Some (spec.part [] [])
 opt-open c inner pasted t after h p = part-shape c inner pasted t after h ∙ ap (opt_shape c inner (c.function && is_hash t) t) p ∙ shape-open c inner (c.function && is_hash t) t
+
+-- ## The loop's steps
+
+-- the first token of what is left, and the others
+pub first-after : (rest after : List Tok) (t : Tok) → 0 < length rest → t ≡ get_or rest 0 t → after ≡ drop 1 rest → rest ≡ t ∷ after
+first-after [] after t h e d = absurd (omega arith)
+first-after (x ∷ xs) after t h e d = ap (λ (y : Tok). y ∷ xs) (sym e) ∙ ap (λ (ys : List Tok). t ∷ ys) (sym d)
+
+-- a bad part that holds no `__VA_OPT__`
+pub walk-bad-part : (old sets : Sets) (c : Call) (list rest after : List Tok) (items items' : List Item) (pasted : Bool) (t : Tok) → rest ≡ t ∷ after → ((inner : Inner) → GivesPart sets items items' (spec.one_part (call_of sets c) inner pasted t after) None) → Walking old sets c list items pasted rest → (n : ℕ) → length list ≤ n → None ≡ spec.items_up_to n (call_of old c) false list
+walk-bad-part old sets c list rest after items items' pasted t e g w =
+    walk-bad old sets c list rest after items pasted t e
+      (λ m l. gives-none sets items items' _ (subst (λ (k : spec.Call). GivesPart sets items items' (spec.one_part k (inner_at m (call_of old c)) pasted t after) None) w.same (g (inner_at m (call_of old c))))) w
+
+-- a part that holds no `__VA_OPT__`
+pub walk-plain-part : (old sets : Sets) (c : Call) (list rest after : List Tok) (items items' : List Item) (pasted : Bool) (t : Tok) (end : PartEnd) → rest ≡ t ∷ after → length end.after.now ≤ length after → ((inner : Inner) → GivesPart sets items items' (spec.one_part (call_of sets c) inner pasted t after) (Some end)) → Walking old sets c list items pasted rest → Walking old sets c list items' end.pasted end.after.now
+walk-plain-part old sets c list rest after items items' pasted t end e s g w =
+    walk-part old sets sets c list rest after items items' pasted t end e (Extends-itself sets) s
+      (λ m l. subst (λ (k : spec.Call). GivesPart sets items items' (spec.one_part k (inner_at m (call_of old c)) pasted t after) (Some end)) w.same (g (inner_at m (call_of old c)))) w
+
+-- a `__VA_OPT__` that isn't closed
+pub walk-open-part : (old sets : Sets) (c : Call) (list rest after : List Tok) (items : List Item) (pasted : Bool) (t : Tok) → rest ≡ t ∷ after → true ≡ opt_comes (call_of sets c) t after → in_parens (λ t. t) (after_word (call_of sets c) t after) ≡ None → Walking old sets c list items pasted rest → (n : ℕ) → length list ≤ n → Some (items_of sets items) ≡ spec.items_up_to n (call_of old c) false list
+walk-open-part old sets c list rest after items pasted t e o p w n l =
+    let k = w.whole n l in
+    turn k.0 (subst (λ (r : List Tok). length r ≤ k.0) e k.1) (subst (λ (r : List Tok). option_map (items_of sets items ++◌) (spec.items_up_to k.0 (call_of old c) pasted r) ≡ spec.items_up_to n (call_of old c) false list) e k.2)
+  where
+    turn : (m : ℕ) → length (t ∷ after) ≤ m → option_map (items_of sets items ++◌) (spec.items_up_to m (call_of old c) pasted (t ∷ after)) ≡ spec.items_up_to n (call_of old c) false list → Some (items_of sets items) ≡ spec.items_up_to n (call_of old c) false list
+    turn zero h q = absurd (omega arith)
+    turn (suc k) h q =
+      let part : spec.one_part (call_of old c) (inner_at k (call_of old c)) pasted t after ≡ Some (spec.part [] []) =
+        opt-open (call_of old c) (inner_at k (call_of old c)) pasted t after
+          (ap (λ (call : spec.Call). opt_comes call t after) (sym w.same) ∙ sym o) (ap (λ (call : spec.Call). in_parens (λ t. t) (after_word call t after)) (sym w.same) ∙ p) in
+      let none : option_map ([] ++◌) (spec.items_up_to k (call_of old c) false []) ≡ Some [] = append-none (spec.items_up_to k (call_of old c) false []) ∙ none-left k (call_of old c) false in
+      ap Some (sym (append-nil (items_of sets items))) ∙ ap (option_map (items_of sets items ++◌)) (sym none)
+        ∙ ap (λ (o : Option spec.Part). option_map (items_of sets items ++◌) (option_and_then (λ (p : spec.Part). option_map (p.items ++◌) (spec.items_up_to k (call_of old c) p.pasted p.after)) o)) (sym part) ∙ q
+
+-- What the content of a `__VA_OPT__` gives, however many turns are left.
+pub record Content (c : spec.Call) (inside : List Tok) (content : Option (List spec.Item)) : Type 0 where
+  pub given : (m : ℕ) → length inside ≤ m → spec.opt_items c (inner_at m c inside) ≡ content
+
+-- a `__VA_OPT__` whose content is bad
+pub walk-bad-content : (old sets : Sets) (c : Call) (list rest after : List Tok) (items : List Item) (pasted : Bool) (t : Tok) (e : Enclosed Tok) → rest ≡ t ∷ after → true ≡ opt_comes (call_of sets c) t after → in_parens (λ t. t) (after_word (call_of sets c) t after) ≡ Some e → length e.inside ≤ length after → Content (call_of sets c) e.inside None → Walking old sets c list items pasted rest → (n : ℕ) → length list ≤ n → None ≡ spec.items_up_to n (call_of old c) false list
+walk-bad-content old sets c list rest after items pasted t e r o p s k w =
+    walk-bad old sets c list rest after items pasted t r
+      (λ m l. subst (λ (call : spec.Call). spec.one_part call (inner_at m call) pasted t after ≡ None) w.same (opt-bad (call_of sets c) (inner_at m (call_of sets c)) pasted t after e (sym o) p (k.given m (omega arith)))) w
+
+-- a `__VA_OPT__` that makes a bad string
+pub walk-bad-string : (old sets sets' : Sets) (c : Call) (list rest after : List Tok) (items items' : List Item) (pasted hashed : Bool) (t : Tok) (e : Enclosed Tok) (content : List spec.Item) → rest ≡ t ∷ after → true ≡ opt_comes (call_of sets c) t after → in_parens (λ t. t) (after_word (call_of sets c) t after) ≡ Some e → length e.inside ≤ length after → Content (call_of sets c) e.inside (Some content) → hashed ≡ ((call_of sets c).function && is_hash t) → call_of sets' c ≡ call_of sets c → AddsString sets' items items' (opt_result (call_of sets' c) hashed t content) false → Walking old sets c list items pasted rest → (n : ℕ) → length list ≤ n → None ≡ spec.items_up_to n (call_of old c) false list
+walk-bad-string old sets sets' c list rest after items items' pasted hashed t e content r o p s k h g a w =
+    let string : AddsString sets' items items' (opt_result (call_of sets c) ((call_of sets c).function && is_hash t) t content) false =
+      subst (λ (b : Bool). AddsString sets' items items' (opt_result (call_of sets c) b t content) false) h (subst (λ (call : spec.Call). AddsString sets' items items' (opt_result call hashed t content) false) g a) in
+    walk-bad old sets c list rest after items pasted t r
+      (λ m l. subst (λ (call : spec.Call). spec.one_part call (inner_at m call) pasted t after ≡ None) w.same
+        (opt-part (call_of sets c) (inner_at m (call_of sets c)) pasted t after e content (sym o) p (k.given m (omega arith)) ∙ gives-none sets' items items' _ (gives-no_string sets' items items' _ e.after string))) w
+
+-- a `__VA_OPT__` that gives something
+pub walk-opt-part : (old sets sets' : Sets) (c : Call) (list rest after : List Tok) (items items' : List Item) (pasted hashed : Bool) (t : Tok) (e : Enclosed Tok) (content : List spec.Item) (end : PartEnd) → rest ≡ t ∷ after → Extends sets sets' → true ≡ opt_comes (call_of sets c) t after → in_parens (λ t. t) (after_word (call_of sets c) t after) ≡ Some e → length e.inside ≤ length after → length e.after ≤ length after → Content (call_of sets c) e.inside (Some content) → hashed ≡ ((call_of sets c).function && is_hash t) → AddsString sets' items items' (opt_result (call_of sets' c) hashed t content) true → false ≡ end.pasted → e.after ≡ end.after.now → Walking old sets c list items pasted rest → Walking old sets' c list items' end.pasted end.after.now
+walk-opt-part old sets sets' c list rest after items items' pasted hashed t e content end r x o p s u k h a f v w =
+    let g = call_of-Extends sets sets' c x w.args in
+    let string : AddsString sets' items items' (opt_result (call_of sets c) ((call_of sets c).function && is_hash t) t content) true =
+      subst (λ (b : Bool). AddsString sets' items items' (opt_result (call_of sets c) b t content) true) h (subst (λ (call : spec.Call). AddsString sets' items items' (opt_result call hashed t content) true) g a) in
+    walk-part old sets sets' c list rest after items items' pasted t end r x (subst (λ (q : List Tok). length q ≤ length after) v u)
+      (λ m l. subst (λ (call : spec.Call). GivesPart sets' items items' (spec.one_part call (inner_at m call) pasted t after) (Some end)) w.same
+        (gives-string-by sets' items items' _ _ e.after end (opt-part (call_of sets c) (inner_at m (call_of sets c)) pasted t after e content (sym o) p (k.given m (omega arith))) string f v)) w
+
+-- ## Contents
+
+pub content-not-asked : (c : spec.Call) (inside : List Tok) (items : List spec.Item) → false ≡ spec.has_variable c → items ≡ spec.Placemarker ∷ [] → Content c inside (Some items)
+content-not-asked c inside items h e =
+    record { given = λ m l. ap (λ (b : Bool). if b then inner_at m c inside else Some (spec.Placemarker ∷ [])) (sym h) ∙ ap Some (sym e) }
+
+pub content-asked : (c : spec.Call) (inside : List Tok) (list content : Option (List spec.Item)) → true ≡ spec.has_variable c → ((m : ℕ) → length inside ≤ m → list ≡ spec.items_up_to m c false inside) → content ≡ option_and_then spec.joined list → Content c inside content
+content-asked c inside list content h f e =
+    record { given = λ m l. ap (λ (b : Bool). if b then inner_at m c inside else Some (spec.Placemarker ∷ [])) (sym h) ∙ ap (option_and_then spec.joined) (sym (f m l)) ∙ sym e }
+
+pub AreItems-placemarker : (sets : Sets) (items : List Item) → items ≡ Placemarker ∷ [] → AreItems sets items
+AreItems-placemarker sets items e = subst (AreItems sets) (sym e) (AreItems-push sets [] Placemarker (AreItems-nil sets) tt)

@@ -34,7 +34,7 @@ gives-string sets old new (Some items) after end h p e = record { added = h; pas
 
 -- ## `#`
 
-abbrev by_hash : spec.Call → Inner → Tok → Tok → List Tok → Option spec.Arg → Option spec.Part
+abbrev pub by_hash : spec.Call → Inner → Tok → Tok → List Tok → Option spec.Arg → Option spec.Part
 by_hash c inner t u after o =
     if is_some o then spec.string_part c t after o
     else if is_some c.variadic && is_opt u then spec.string_opt_part c inner t (in_parens (λ t. t) after)
@@ -53,7 +53,7 @@ hash-other c inner t (x ∷ after) u h e f k =
 
 -- ## The comma rule
 
-abbrev by_tests : spec.Call → Inner → Bool → Tok → List Tok → Bool → Bool → Option spec.Part → Option spec.Part
+abbrev pub by_tests : spec.Call → Inner → Bool → Tok → List Tok → Bool → Bool → Option spec.Part → Option spec.Part
 by_tests c inner pasted t after hash paste comma =
     if hash then spec.hash_part c inner t after
     else if paste then Some (record { items = spec.Paste (spec.own c t) ∷ []; pasted = true; after = after })
