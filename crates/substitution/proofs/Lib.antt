@@ -7,3 +7,4 @@ pub mod ParensLemmas
 pub mod PartLemmas
 pub mod OptionalLemmas
 pub mod ListLemmas
+pub mod SubstituteLemmas
