@@ -2,12 +2,12 @@
 use Rattle.std.proofs.Common.{◌≡◌, sym, ◌∙◌, ap, subst, refl, ℕ, Bool, ◌<◌, List, [], ◌∷◌, ◌++◌, map, length, get_or, take, drop, ◌+◌, arith, append_assoc}
 use Rattle.std.proofs.lemmas.List.{map-append, append-nil, take_more}
 use Rattle.std.proofs.lemmas.List.Elements.{All-append}
-use Rattle.hide_sets.specs.Sets.{Sets, IsSet}
+use Rattle.hide_sets.specs.Sets.{Sets}
 use Rattle.scan_model.specs.Substitution as spec
 use Rattle.substitution.specs.declared.marked.Marked.{Marked}
 use Rattle.substitution.specs.declared.item.Item.{Item}
-use Rattle.substitution.specs.declared.item.Item.TheVariants.{Placemarker, Operand, Paste}
-use Rattle.substitution.specs.Meaning.{marked_of, all_marked_of, item_of, items_of, IsMarked, AreMarked, IsItem, AreItems}
+use Rattle.substitution.specs.declared.item.Item.TheVariants.{Operand}
+use Rattle.substitution.specs.Meaning.{marked_of, all_marked_of, item_of, items_of, IsMarked, AreMarked, IsItem}
 use Rattle.substitution.specs.Calls.{Adds}
 use Rattle.substitution.proofs.JoinLemmas.{AreItems-nil, AreItems-push}
 
@@ -37,7 +37,7 @@ operands-more sets a b c marked i m h e k g p =
     let known : IsMarked sets m = subst (IsMarked sets) (sym e) (k i m h) in
     let more : take (i + 1) marked ≡ take i marked ++ m ∷ [] = take_more marked i m h ∙ ap (λ (n : Marked). take i marked ++ n ∷ []) (sym e) in
     let shape : map spec.Operand (all_marked_of sets (take (i + 1) marked)) ≡ map spec.Operand (all_marked_of sets (take i marked)) ++ spec.Operand (marked_of sets m) ∷ [] =
-        ap (λ (s : List Marked). map spec.Operand (all_marked_of sets s)) more ∙ ap (map spec.Operand) (map-append (marked_of sets) (take i marked) (m ∷ [])) ∙ map-append spec.Operand (all_marked_of sets (take i marked)) (marked_of sets m ∷ []) in
+    ap (λ (s : List Marked). map spec.Operand (all_marked_of sets s)) more ∙ ap (map spec.Operand) (map-append (marked_of sets) (take i marked) (m ∷ [])) ∙ map-append spec.Operand (all_marked_of sets (take i marked)) (marked_of sets m ∷ []) in
     adds-same sets a c _ _ (sym shape) (adds-on sets a b c _ _ p (adds-one sets b c (Operand m) (spec.Operand (marked_of sets m)) g known refl))
 
 -- the first operand, with a space of its own, and the others

@@ -1,9 +1,8 @@
 -- The argument of a name, parameter by parameter.
-use Rattle.std.proofs.Common.{◌≡◌, sym, ◌∙◌, ap, refl, ℕ, zero, suc, ◌<◌, ◌≤◌, Bool, true, false, List, [], ◌∷◌, map, length, get_or, drop, None, Option, arith}
+use Rattle.std.proofs.Common.{◌≡◌, refl, ℕ, zero, suc, ◌<◌, ◌≤◌, false, List, [], ◌∷◌, map, length, get_or, drop, None, arith}
 use Rattle.hide_sets.specs.Sets.{Sets}
 use Rattle.scan_model.specs.TokenTests.{same}
 use Rattle.scan_model.specs.Expansion.{arg_named}
-use Rattle.scan_model.specs.Substitution as subst
 use Rattle.substitution.specs.declared.marked.Arg.{Arg}
 use Rattle.substitution.specs.Meaning.{arg_of}
 

@@ -1,6 +1,6 @@
 -- Joins by `##`, from left to right.
-use Rattle.std.proofs.Common.{◌≡◌, sym, ◌∙◌, ap, subst, refl, ℕ, zero, suc, ◌<◌, ◌≤◌, ◌⊎◌, ⊎_elim, List, [], ◌∷◌, ◌++◌, map, length, get_or, Option, Some, None, IfSome, option_map, option_and_then, option_to_list, arith, append_assoc}
-use Rattle.std.proofs.lemmas.List.{map-append, append-nil, length_push, get_or_append_left, get_or_push}
+use Rattle.std.proofs.Common.{◌≡◌, sym, ◌∙◌, ap, subst, refl, suc, ◌<◌, ◌≤◌, ⊎_elim, List, [], ◌∷◌, ◌++◌, length, get_or, Option, Some, None, IfSome, option_map, option_and_then, option_to_list, arith, append_assoc}
+use Rattle.std.proofs.lemmas.List.{map-append, length_push, get_or_append_left, get_or_push}
 use Rattle.std.proofs.lemmas.Bool.{cases_lt}
 use Rattle.hide_sets.specs.Sets.{Sets, Extends}
 use Rattle.hide_sets.proofs.Growing.{Extends-itself, Extends-on}
@@ -10,7 +10,7 @@ use Rattle.substitution.specs.declared.item.Item.{Item}
 use Rattle.substitution.specs.declared.item.Item.TheVariants.{Placemarker, Operand, Paste}
 use Rattle.substitution.specs.Meaning.{item_of, items_of, IsItem, AreItems, GivesItem}
 use Rattle.substitution.specs.Joins.{joined_with}
-use Rattle.substitution.proofs.MeaningLemmas.{item_of-Extends, IsItem-Extends, items_of-Extends, AreItems-Extends}
+use Rattle.substitution.proofs.MeaningLemmas.{items_of-Extends, AreItems-Extends}
 
 -- ## Lists of items
 
@@ -101,7 +101,7 @@ joining-paste old sets sets' items done left whole m right rest rest' e n x g j 
       left_known = g.known;
       rest_known = AreItems-Extends sets sets' rest' x r;
       whole = ap (λ (s : List spec.Item). option_map (s ++◌) (spec.joined_onto (item_of sets' whole) (items_of sets' rest'))) front
-        ∙ ap (λ (s : List spec.Item). option_map (items_of sets done ++◌) (spec.joined_onto (item_of sets' whole) s)) back
-        ∙ ap (option_map (items_of sets done ++◌)) (sym one) ∙ ap (option_map (items_of sets done ++◌)) (sym onto)
-        ∙ ap (λ (s : List Item). option_map (items_of sets done ++◌) (spec.joined_onto (item_of sets left) (items_of sets s))) (sym e) ∙ j.whole;
+          ∙ ap (λ (s : List spec.Item). option_map (items_of sets done ++◌) (spec.joined_onto (item_of sets' whole) s)) back
+          ∙ ap (option_map (items_of sets done ++◌)) (sym one) ∙ ap (option_map (items_of sets done ++◌)) (sym onto)
+          ∙ ap (λ (s : List Item). option_map (items_of sets done ++◌) (spec.joined_onto (item_of sets left) (items_of sets s))) (sym e) ∙ j.whole;
     }

@@ -121,19 +121,22 @@ walk-part old sets sets' c list rest after items items' pasted t end e x s parts
       known = AreItems-added sets sets' items items' _ x w.known first.2.added;
       shorter = omega (arith, w.shorter, ap length e);
       whole = λ n l. let k = w.whole n l in
-        turn n k.0 (subst (λ (r : List Tok). length r ≤ k.0) e k.1) (subst (λ (r : List Tok). option_map (items_of sets items ++◌) (spec.items_up_to k.0 (call_of old c) pasted r) ≡ spec.items_up_to n (call_of old c) false list) e k.2);
+          turn n k.0 (subst (λ (r : List Tok). length r ≤ k.0) e k.1) (subst (λ (r : List Tok). option_map (items_of sets items ++◌) (spec.items_up_to k.0 (call_of old c) pasted r) ≡ spec.items_up_to n (call_of old c) false list) e k.2);
     }
   where
     turns : (n m : ℕ) → length (t ∷ after) ≤ m → option_map (items_of sets items ++◌) (spec.items_up_to m (call_of old c) pasted (t ∷ after)) ≡ spec.items_up_to n (call_of old c) false list → (k : ℕ) × (length end.after.now ≤ k) × (option_map (items_of sets' items' ++◌) (spec.items_up_to k (call_of old c) end.pasted end.after.now) ≡ spec.items_up_to n (call_of old c) false list)
     turns n zero l q = absurd (omega arith)
     turns n (suc k) l q =
-      let g = gives-some sets' items items' _ end (parts k (omega arith)) in
-      let left : spec.items_up_to k (call_of old c) end.pasted end.after.now ≡ spec.items_up_to k (call_of old c) g.0.pasted g.0.after = ap (λ (b : Bool). spec.items_up_to k (call_of old c) b end.after.now) (sym g.2.pasted) ∙ ap (spec.items_up_to k (call_of old c) g.0.pasted) (sym g.2.after) in
-      let here : option_map (g.0.items ++◌) (spec.items_up_to k (call_of old c) g.0.pasted g.0.after) ≡ spec.items_up_to (suc k) (call_of old c) pasted (t ∷ after) = ap (option_and_then (λ (p : spec.Part). option_map (p.items ++◌) (spec.items_up_to k (call_of old c) p.pasted p.after))) (sym g.1) in
-      (k, omega arith, ap (λ (y : List spec.Item). option_map (y ++◌) (spec.items_up_to k (call_of old c) end.pasted end.after.now)) (items_of-added sets sets' items items' g.0.items x w.known g.2.added)
-        ∙ append-both (items_of sets items) g.0.items (spec.items_up_to k (call_of old c) end.pasted end.after.now)
-        ∙ ap (λ (o : Option (List spec.Item)). option_map (items_of sets items ++◌) (option_map (g.0.items ++◌) o)) left
-        ∙ ap (option_map (items_of sets items ++◌)) here ∙ q)
+        let g = gives-some sets' items items' _ end (parts k (omega arith)) in
+        let left : spec.items_up_to k (call_of old c) end.pasted end.after.now ≡ spec.items_up_to k (call_of old c) g.0.pasted g.0.after = ap (λ (b : Bool). spec.items_up_to k (call_of old c) b end.after.now) (sym g.2.pasted) ∙ ap (spec.items_up_to k (call_of old c) g.0.pasted) (sym g.2.after) in
+        let here : option_map (g.0.items ++◌) (spec.items_up_to k (call_of old c) g.0.pasted g.0.after) ≡ spec.items_up_to (suc k) (call_of old c) pasted (t ∷ after) = ap (option_and_then (λ (p : spec.Part). option_map (p.items ++◌) (spec.items_up_to k (call_of old c) p.pasted p.after))) (sym g.1) in (
+          k,
+          omega arith,
+          ap (λ (y : List spec.Item). option_map (y ++◌) (spec.items_up_to k (call_of old c) end.pasted end.after.now)) (items_of-added sets sets' items items' g.0.items x w.known g.2.added)
+              ∙ append-both (items_of sets items) g.0.items (spec.items_up_to k (call_of old c) end.pasted end.after.now)
+              ∙ ap (λ (o : Option (List spec.Item)). option_map (items_of sets items ++◌) (option_map (g.0.items ++◌) o)) left
+              ∙ ap (option_map (items_of sets items ++◌)) here ∙ q,
+        )
 
 -- a part that gives nothing at all
 pub walk-bad : (old sets : Sets) (c : Call) (list rest after : List Tok) (items : List Item) (pasted : Bool) (t : Tok) → rest ≡ t ∷ after → ((m : ℕ) → length after ≤ m → spec.one_part (call_of old c) (inner_at m (call_of old c)) pasted t after ≡ None) → Walking old sets c list items pasted rest → (n : ℕ) → length list ≤ n → None ≡ spec.items_up_to n (call_of old c) false list
@@ -201,13 +204,13 @@ first-after (x ∷ xs) after t h e d = ap (λ (y : Tok). y ∷ xs) (sym e) ∙ a
 pub walk-bad-part : (old sets : Sets) (c : Call) (list rest after : List Tok) (items items' : List Item) (pasted : Bool) (t : Tok) → rest ≡ t ∷ after → ((inner : Inner) → GivesPart sets items items' (spec.one_part (call_of sets c) inner pasted t after) None) → Walking old sets c list items pasted rest → (n : ℕ) → length list ≤ n → None ≡ spec.items_up_to n (call_of old c) false list
 walk-bad-part old sets c list rest after items items' pasted t e g w =
     walk-bad old sets c list rest after items pasted t e
-      (λ m l. gives-none sets items items' _ (subst (λ (k : spec.Call). GivesPart sets items items' (spec.one_part k (inner_at m (call_of old c)) pasted t after) None) w.same (g (inner_at m (call_of old c))))) w
+    (λ m l. gives-none sets items items' _ (subst (λ (k : spec.Call). GivesPart sets items items' (spec.one_part k (inner_at m (call_of old c)) pasted t after) None) w.same (g (inner_at m (call_of old c))))) w
 
 -- a part that holds no `__VA_OPT__`
 pub walk-plain-part : (old sets : Sets) (c : Call) (list rest after : List Tok) (items items' : List Item) (pasted : Bool) (t : Tok) (end : PartEnd) → rest ≡ t ∷ after → length end.after.now ≤ length after → ((inner : Inner) → GivesPart sets items items' (spec.one_part (call_of sets c) inner pasted t after) (Some end)) → Walking old sets c list items pasted rest → Walking old sets c list items' end.pasted end.after.now
 walk-plain-part old sets c list rest after items items' pasted t end e s g w =
     walk-part old sets sets c list rest after items items' pasted t end e (Extends-itself sets) s
-      (λ m l. subst (λ (k : spec.Call). GivesPart sets items items' (spec.one_part k (inner_at m (call_of old c)) pasted t after) (Some end)) w.same (g (inner_at m (call_of old c)))) w
+    (λ m l. subst (λ (k : spec.Call). GivesPart sets items items' (spec.one_part k (inner_at m (call_of old c)) pasted t after) (Some end)) w.same (g (inner_at m (call_of old c)))) w
 
 -- a `__VA_OPT__` that isn't closed
 pub walk-open-part : (old sets : Sets) (c : Call) (list rest after : List Tok) (items : List Item) (pasted : Bool) (t : Tok) → rest ≡ t ∷ after → true ≡ opt_comes (call_of sets c) t after → in_parens (λ t. t) (after_word (call_of sets c) t after) ≡ None → Walking old sets c list items pasted rest → (n : ℕ) → length list ≤ n → Some (items_of sets items) ≡ spec.items_up_to n (call_of old c) false list
@@ -218,11 +221,11 @@ walk-open-part old sets c list rest after items pasted t e o p w n l =
     turn : (m : ℕ) → length (t ∷ after) ≤ m → option_map (items_of sets items ++◌) (spec.items_up_to m (call_of old c) pasted (t ∷ after)) ≡ spec.items_up_to n (call_of old c) false list → Some (items_of sets items) ≡ spec.items_up_to n (call_of old c) false list
     turn zero h q = absurd (omega arith)
     turn (suc k) h q =
-      let part : spec.one_part (call_of old c) (inner_at k (call_of old c)) pasted t after ≡ Some (spec.part [] []) =
+        let part : spec.one_part (call_of old c) (inner_at k (call_of old c)) pasted t after ≡ Some (spec.part [] []) =
         opt-open (call_of old c) (inner_at k (call_of old c)) pasted t after
-          (ap (λ (call : spec.Call). opt_comes call t after) (sym w.same) ∙ sym o) (ap (λ (call : spec.Call). in_parens (λ t. t) (after_word call t after)) (sym w.same) ∙ p) in
-      let none : option_map ([] ++◌) (spec.items_up_to k (call_of old c) false []) ≡ Some [] = append-none (spec.items_up_to k (call_of old c) false []) ∙ none-left k (call_of old c) false in
-      ap Some (sym (append-nil (items_of sets items))) ∙ ap (option_map (items_of sets items ++◌)) (sym none)
+        (ap (λ (call : spec.Call). opt_comes call t after) (sym w.same) ∙ sym o) (ap (λ (call : spec.Call). in_parens (λ t. t) (after_word call t after)) (sym w.same) ∙ p) in
+        let none : option_map ([] ++◌) (spec.items_up_to k (call_of old c) false []) ≡ Some [] = append-none (spec.items_up_to k (call_of old c) false []) ∙ none-left k (call_of old c) false in
+        ap Some (sym (append-nil (items_of sets items))) ∙ ap (option_map (items_of sets items ++◌)) (sym none)
         ∙ ap (λ (o : Option spec.Part). option_map (items_of sets items ++◌) (option_and_then (λ (p : spec.Part). option_map (p.items ++◌) (spec.items_up_to k (call_of old c) p.pasted p.after)) o)) (sym part) ∙ q
 
 -- What the content of a `__VA_OPT__` gives, however many turns are left.
@@ -233,26 +236,26 @@ pub record Content (c : spec.Call) (inside : List Tok) (content : Option (List s
 pub walk-bad-content : (old sets : Sets) (c : Call) (list rest after : List Tok) (items : List Item) (pasted : Bool) (t : Tok) (e : Enclosed Tok) → rest ≡ t ∷ after → true ≡ opt_comes (call_of sets c) t after → in_parens (λ t. t) (after_word (call_of sets c) t after) ≡ Some e → length e.inside ≤ length after → Content (call_of sets c) e.inside None → Walking old sets c list items pasted rest → (n : ℕ) → length list ≤ n → None ≡ spec.items_up_to n (call_of old c) false list
 walk-bad-content old sets c list rest after items pasted t e r o p s k w =
     walk-bad old sets c list rest after items pasted t r
-      (λ m l. subst (λ (call : spec.Call). spec.one_part call (inner_at m call) pasted t after ≡ None) w.same (opt-bad (call_of sets c) (inner_at m (call_of sets c)) pasted t after e (sym o) p (k.given m (omega arith)))) w
+    (λ m l. subst (λ (call : spec.Call). spec.one_part call (inner_at m call) pasted t after ≡ None) w.same (opt-bad (call_of sets c) (inner_at m (call_of sets c)) pasted t after e (sym o) p (k.given m (omega arith)))) w
 
 -- a `__VA_OPT__` that makes a bad string
 pub walk-bad-string : (old sets sets' : Sets) (c : Call) (list rest after : List Tok) (items items' : List Item) (pasted hashed : Bool) (t : Tok) (e : Enclosed Tok) (content : List spec.Item) → rest ≡ t ∷ after → true ≡ opt_comes (call_of sets c) t after → in_parens (λ t. t) (after_word (call_of sets c) t after) ≡ Some e → length e.inside ≤ length after → Content (call_of sets c) e.inside (Some content) → hashed ≡ ((call_of sets c).function && is_hash t) → call_of sets' c ≡ call_of sets c → AddsString sets' items items' (opt_result (call_of sets' c) hashed t content) false → Walking old sets c list items pasted rest → (n : ℕ) → length list ≤ n → None ≡ spec.items_up_to n (call_of old c) false list
 walk-bad-string old sets sets' c list rest after items items' pasted hashed t e content r o p s k h g a w =
     let string : AddsString sets' items items' (opt_result (call_of sets c) ((call_of sets c).function && is_hash t) t content) false =
-      subst (λ (b : Bool). AddsString sets' items items' (opt_result (call_of sets c) b t content) false) h (subst (λ (call : spec.Call). AddsString sets' items items' (opt_result call hashed t content) false) g a) in
+    subst (λ (b : Bool). AddsString sets' items items' (opt_result (call_of sets c) b t content) false) h (subst (λ (call : spec.Call). AddsString sets' items items' (opt_result call hashed t content) false) g a) in
     walk-bad old sets c list rest after items pasted t r
-      (λ m l. subst (λ (call : spec.Call). spec.one_part call (inner_at m call) pasted t after ≡ None) w.same
-        (opt-part (call_of sets c) (inner_at m (call_of sets c)) pasted t after e content (sym o) p (k.given m (omega arith)) ∙ gives-none sets' items items' _ (gives-no_string sets' items items' _ e.after string))) w
+    (λ m l. subst (λ (call : spec.Call). spec.one_part call (inner_at m call) pasted t after ≡ None) w.same
+    (opt-part (call_of sets c) (inner_at m (call_of sets c)) pasted t after e content (sym o) p (k.given m (omega arith)) ∙ gives-none sets' items items' _ (gives-no_string sets' items items' _ e.after string))) w
 
 -- a `__VA_OPT__` that gives something
 pub walk-opt-part : (old sets sets' : Sets) (c : Call) (list rest after : List Tok) (items items' : List Item) (pasted hashed : Bool) (t : Tok) (e : Enclosed Tok) (content : List spec.Item) (end : PartEnd) → rest ≡ t ∷ after → Extends sets sets' → true ≡ opt_comes (call_of sets c) t after → in_parens (λ t. t) (after_word (call_of sets c) t after) ≡ Some e → length e.inside ≤ length after → length e.after ≤ length after → Content (call_of sets c) e.inside (Some content) → hashed ≡ ((call_of sets c).function && is_hash t) → AddsString sets' items items' (opt_result (call_of sets' c) hashed t content) true → false ≡ end.pasted → e.after ≡ end.after.now → Walking old sets c list items pasted rest → Walking old sets' c list items' end.pasted end.after.now
 walk-opt-part old sets sets' c list rest after items items' pasted hashed t e content end r x o p s u k h a f v w =
     let g = call_of-Extends sets sets' c x w.args in
     let string : AddsString sets' items items' (opt_result (call_of sets c) ((call_of sets c).function && is_hash t) t content) true =
-      subst (λ (b : Bool). AddsString sets' items items' (opt_result (call_of sets c) b t content) true) h (subst (λ (call : spec.Call). AddsString sets' items items' (opt_result call hashed t content) true) g a) in
+    subst (λ (b : Bool). AddsString sets' items items' (opt_result (call_of sets c) b t content) true) h (subst (λ (call : spec.Call). AddsString sets' items items' (opt_result call hashed t content) true) g a) in
     walk-part old sets sets' c list rest after items items' pasted t end r x (subst (λ (q : List Tok). length q ≤ length after) v u)
-      (λ m l. subst (λ (call : spec.Call). GivesPart sets' items items' (spec.one_part call (inner_at m call) pasted t after) (Some end)) w.same
-        (gives-string-by sets' items items' _ _ e.after end (opt-part (call_of sets c) (inner_at m (call_of sets c)) pasted t after e content (sym o) p (k.given m (omega arith))) string f v)) w
+    (λ m l. subst (λ (call : spec.Call). GivesPart sets' items items' (spec.one_part call (inner_at m call) pasted t after) (Some end)) w.same
+    (gives-string-by sets' items items' _ _ e.after end (opt-part (call_of sets c) (inner_at m (call_of sets c)) pasted t after e content (sym o) p (k.given m (omega arith))) string f v)) w
 
 -- ## Contents
 

@@ -1,5 +1,5 @@
 -- What tokens and items mean, in tables that grow.
-use Rattle.std.proofs.Common.{◌≡◌, sym, ◌∙◌, ap, refl, Bool, List, ℕ, suc, ◌<◌, [], ◌∷◌, ◌++◌, map, All, get_or, arith}
+use Rattle.std.proofs.Common.{◌≡◌, ap, refl, Bool, List, ℕ, suc, [], ◌∷◌, get_or, arith}
 use Rattle.hide_sets.specs.Sets.{Sets, Extends}
 use Rattle.hide_sets.proofs.Growing.{hides_of-Extends, IsSet-Extends}
 use Rattle.scan_model.specs.Substitution as subst

@@ -1,5 +1,5 @@
 -- The content of `__VA_OPT__`, item by item.
-use Rattle.std.proofs.Common.{◌≡◌, sym, ◌∙◌, ap, subst, refl, ℕ, ◌<◌, Bool, true, false, not, ◌&&◌, if◌then◌else◌, List, [], ◌∷◌, ◌++◌, map, length, arith, append_assoc}
+use Rattle.std.proofs.Common.{◌≡◌, sym, ◌∙◌, ap, subst, refl, ◌<◌, Bool, true, false, not, ◌&&◌, if◌then◌else◌, List, [], ◌∷◌, ◌++◌, length, arith, append_assoc}
 use Rattle.std.proofs.lemmas.List.{append-nil}
 use Rattle.hide_sets.specs.Sets.{Sets}
 use Rattle.scan_model.specs.Substitution as spec
@@ -39,9 +39,9 @@ stripping-more items marked marked' item rest rest' e k v s =
       known = λ sets h. k sets (s.known sets h) (AreItems-first sets item rest' (subst (AreItems sets) e (s.rest_known sets h)));
       rest_known = λ sets h. AreItems-rest sets item rest' (subst (AreItems sets) e (s.rest_known sets h));
       whole = λ sets. let after = spec.without_placemarkers (items_of sets rest') in
-        ap (λ (x : List spec.Marked). x ++ after) (v sets) ∙ append_assoc (all_marked_of sets marked) (spec.without_placemarkers (item_of sets item ∷ [])) after
-        ∙ ap (λ (x : List spec.Marked). all_marked_of sets marked ++ x) (sym (strip-first sets item (items_of sets rest')))
-        ∙ ap (λ (x : List Item). all_marked_of sets marked ++ spec.without_placemarkers (items_of sets x)) (sym e) ∙ s.whole sets;
+          ap (λ (x : List spec.Marked). x ++ after) (v sets) ∙ append_assoc (all_marked_of sets marked) (spec.without_placemarkers (item_of sets item ∷ [])) after
+          ∙ ap (λ (x : List spec.Marked). all_marked_of sets marked ++ x) (sym (strip-first sets item (items_of sets rest')))
+          ∙ ap (λ (x : List Item). all_marked_of sets marked ++ spec.without_placemarkers (items_of sets x)) (sym e) ∙ s.whole sets;
     }
 
 -- ## The first token's space
@@ -76,10 +76,10 @@ spacing-more sets old new new' content rest rest' space first first' item item' 
       added = adds-on sets old new new' s.done (item_of sets item' ∷ []) s.added one;
       rest_known = AreItems-rest sets item rest' all;
       whole = append_assoc s.done (item_of sets item' ∷ []) after
-        ∙ ap (λ (x : spec.Item). s.done ++ (x ∷ after)) v
-        ∙ ap (λ (b : Bool). s.done ++ ((if first then item_spaced space (item_of sets item) else item_of sets item) ∷ spaced_if b space (items_of sets rest'))) f
-        ∙ ap (λ (x : List spec.Item). s.done ++ x) (sym (space-first sets first space item (items_of sets rest')))
-        ∙ ap (λ (x : List Item). s.done ++ spaced_if first space (items_of sets x)) (sym e) ∙ s.whole;
+          ∙ ap (λ (x : spec.Item). s.done ++ (x ∷ after)) v
+          ∙ ap (λ (b : Bool). s.done ++ ((if first then item_spaced space (item_of sets item) else item_of sets item) ∷ spaced_if b space (items_of sets rest'))) f
+          ∙ ap (λ (x : List spec.Item). s.done ++ x) (sym (space-first sets first space item (items_of sets rest')))
+          ∙ ap (λ (x : List Item). s.done ++ spaced_if first space (items_of sets x)) (sym e) ∙ s.whole;
     }
 
 pub spacing-end : (sets : Sets) (old new content rest : List Item) (space first : Bool) → rest ≡ [] → Spacing sets old new content rest space first → Adds sets old new (spec.first_item_spaced space (items_of sets content))

@@ -1,5 +1,5 @@
 -- What parentheses enclose, token by token.
-use Rattle.std.proofs.Common.{◌≡◌, sym, ◌∙◌, ap, refl, ℕ, ◌+◌, ◌<◌, ◌≤◌, Bool, true, false, ◌&&◌, ◌==◌, List, [], ◌∷◌, ◌++◌, length, take, drop, get_or, Option, Some, None, option_map, arith, append_assoc}
+use Rattle.std.proofs.Common.{◌≡◌, sym, ◌∙◌, ap, refl, ℕ, ◌+◌, ◌<◌, ◌≤◌, true, false, ◌&&◌, ◌==◌, List, [], ◌∷◌, ◌++◌, length, take, drop, get_or, Option, Some, None, option_map, append_assoc}
 use Rattle.std.proofs.lemmas.List.{append-nil, take_more, drop_more, drop_all}
 use Rattle.scan_model.specs.declared.token.Tok.{Tok}
 use Rattle.scan_model.specs.TokenTests.{is_close_paren}
@@ -38,7 +38,7 @@ enclosed-found ts i depth t h e f k =
     let d : drop i ts ≡ t ∷ drop (i + 1) ts = drop_more ts i t h ∙ ap (λ (s : Tok). s ∷ drop (i + 1) ts) (sym e) in
     let here : toks_enclosed depth (t ∷ drop (i + 1) ts) ≡ Some (record { inside = []; close = t; after = drop (i + 1) ts }) = rw f refl in
     sym k ∙ ap (λ (s : List Tok). option_map (before_inside (take i ts)) (toks_enclosed depth s)) d ∙ ap (option_map (before_inside (take i ts))) here
-      ∙ ap (λ (s : List Tok). let made : Enclosed Tok = record { inside = s; close = t; after = drop (i + 1) ts } in Some made) (append-nil (take i ts))
+    ∙ ap (λ (s : List Tok). let made : Enclosed Tok = record { inside = s; close = t; after = drop (i + 1) ts } in Some made) (append-nil (take i ts))
 
 pub enclosed-end : (ts : List Tok) (i depth : ℕ) → length ts ≤ i → option_map (before_inside (take i ts)) (toks_enclosed depth (drop i ts)) ≡ toks_enclosed 0 ts → toks_enclosed 0 ts ≡ None
 enclosed-end ts i depth h k = sym k ∙ ap (λ (s : List Tok). option_map (before_inside (take i ts)) (toks_enclosed depth s)) (drop_all i ts h)

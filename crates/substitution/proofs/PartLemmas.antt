@@ -1,5 +1,5 @@
 -- What each part of a list gives.
-use Rattle.std.proofs.Common.{◌≡◌, sym, ◌∙◌, ap, subst, refl, ℕ, ◌<◌, Bool, true, false, not, ◌&&◌, if◌then◌else◌, List, [], ◌∷◌, ◌++◌, map, length, get_or, drop, Option, Some, None, option_map, is_some, ◌==◌, arith}
+use Rattle.std.proofs.Common.{◌≡◌, sym, ◌∙◌, ap, subst, refl, ◌<◌, Bool, true, false, not, ◌&&◌, if◌then◌else◌, List, [], ◌∷◌, length, get_or, drop, Option, Some, None, option_map, is_some, ◌==◌, arith}
 use Rattle.std.proofs.lemmas.List.{length-map}
 use Rattle.hide_sets.specs.Sets.{Sets}
 use Rattle.scan_model.specs.declared.token.Tok.{Tok}
@@ -13,7 +13,7 @@ use Rattle.substitution.specs.declared.item.Item.{Item}
 use Rattle.substitution.specs.declared.call.PartEnd.{PartEnd}
 use Rattle.substitution.specs.Strings.{toks_of}
 use Rattle.substitution.specs.Meaning.{marked_of, all_marked_of, arg_of}
-use Rattle.substitution.specs.Calls.{Adds, AddsPart, AddsString, GivesPart, opt_after_hash}
+use Rattle.substitution.specs.Calls.{Adds, AddsString, GivesPart, opt_after_hash}
 
 abbrev pub Inner : Type 0
 Inner = List Tok → Option (List spec.Item)

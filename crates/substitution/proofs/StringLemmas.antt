@@ -1,10 +1,9 @@
 -- Strings by `#`, byte by byte and token by token.
-use Rattle.std.proofs.Common.{◌≡◌, sym, ◌∙◌, ap, refl, ℕ, ◌+◌, ◌<◌, Bool, true, false, ◌&&◌, ◌||◌, ◌==◌, if◌then◌else◌, List, [], ◌∷◌, ◌++◌, map, length, get_or, drop, append_assoc, arith}
-use Rattle.std.proofs.lemmas.List.{drop_more, append-nil}
+use Rattle.std.proofs.Common.{◌≡◌, sym, ◌∙◌, ap, refl, ℕ, ◌+◌, ◌<◌, Bool, true, false, ◌&&◌, ◌||◌, ◌==◌, if◌then◌else◌, List, [], ◌∷◌, ◌++◌, length, get_or, drop, append_assoc}
+use Rattle.std.proofs.lemmas.List.{drop_more}
 use Rattle.scan_model.specs.Spliced.{at_newline}
-use Rattle.scan_model.specs.Substitution.{shown_bytes, shown_after_first}
-use Rattle.substitution.specs.declared.marked.Marked.{Marked}
-use Rattle.substitution.specs.Strings.{shown_first, shown_further, toks_of}
+use Rattle.scan_model.specs.Substitution.{shown_bytes}
+use Rattle.substitution.specs.Strings.{shown_first}
 
 three_ways : (a b q : Bool) (c : ℕ) (s : List ℕ) → (if a then s else if b then 92 ∷ 110 ∷ s else if q then 92 ∷ c ∷ s else c ∷ s) ≡ (if a then [] else if b then 92 ∷ 110 ∷ [] else if q then 92 ∷ c ∷ [] else c ∷ []) ++ s
 three_ways true b q c s = refl
@@ -24,4 +23,4 @@ pub bytes-step : (quoted : Bool) (bytes : List ℕ) (i : ℕ) (start text text' 
 bytes-step quoted bytes i start text text' h e t =
     let d = drop_more bytes i 0 h in
     grows (shown_bytes quoted (drop i bytes)) (shown_first quoted (drop i bytes)) (shown_bytes quoted (drop (i + 1) bytes)) start text text' e
-      (ap (shown_bytes quoted) d ∙ shown_bytes-first quoted (get_or bytes i 0) (drop (i + 1) bytes) ∙ ap (λ (s : List ℕ). shown_first quoted s ++ shown_bytes quoted (drop (i + 1) bytes)) (sym d)) t
+    (ap (shown_bytes quoted) d ∙ shown_bytes-first quoted (get_or bytes i 0) (drop (i + 1) bytes) ∙ ap (λ (s : List ℕ). shown_first quoted s ++ shown_bytes quoted (drop (i + 1) bytes)) (sym d)) t

@@ -1,5 +1,5 @@
 -- What the code's calls stand for, by a table of hide sets.
-use Rattle.std.specs.Prelude.{◌≡◌, ℕ, ◌<◌, Bool, true, false, not, ◌&&◌, List, [], ◌∷◌, ◌++◌, map, length, All, Option, Some, None, is_some, if◌then◌else◌, slice_index_or, drop}
+use Rattle.std.specs.Prelude.{◌≡◌, ℕ, Bool, true, false, not, ◌&&◌, List, [], ◌∷◌, ◌++◌, map, All, Option, Some, None, is_some, if◌then◌else◌, slice_index_or, drop}
 use Rattle.hide_sets.specs.Sets.{Sets}
 use Rattle.scan_model.specs.declared.token.Tok.{Tok}
 use Rattle.std.specs.Borrow.{Bor}

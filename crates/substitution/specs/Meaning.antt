@@ -1,5 +1,5 @@
 -- What the lists of the code stand for, by a table of hide sets.
-use Rattle.std.specs.Prelude.{◌≡◌, List, map, All, Option, Some, None, IfSome, unwrap_or, Vec}
+use Rattle.std.specs.Prelude.{◌≡◌, List, map, All, Option, IfSome, unwrap_or, Vec}
 use Rattle.std.specs.Option.{option_map}
 use Rattle.std.specs.declared.alloc.Global.{Global}
 use Rattle.hide_sets.specs.Sets.{Sets, IsSet, hides_of}

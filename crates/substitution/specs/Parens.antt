@@ -1,5 +1,5 @@
 -- What parentheses enclose in a list of tokens.
-use Rattle.std.specs.Prelude.{◌≡◌, ◌<◌, ◌++◌, List, length, Option, Some}
+use Rattle.std.specs.Prelude.{◌≡◌, ◌<◌, List, length, Option, Some}
 use Rattle.scan_model.specs.declared.token.Tok.{Tok}
 use Rattle.scan_model.specs.Parentheses.{Enclosed}
 use Rattle.substitution.specs.declared.parens.Parens.{Parens}

@@ -51,7 +51,12 @@ impl<'a> Call<'a> {
         ensures { (sets : Sets) → result ≡ subst.is_variable (call_of sets self.now) tok.now }
     {
         match self.definition {
-            Some(FunctionDef { variadic: Some(name), .. }) => is_named(name.as_slice(), tok),
+            Some(
+                FunctionDef {
+                    variadic: Some(name),
+                    ..
+                },
+            ) => is_named(name.as_slice(), tok),
             _ => false,
         }
     }
@@ -84,7 +89,12 @@ impl<'a> Call<'a> {
         ensures { (sets : Sets) → result ≡ subst.has_variable (call_of sets self.now) }
     {
         match self.definition {
-            Some(FunctionDef { variadic: Some(name), .. }) => match self.arg(name.as_slice()) {
+            Some(
+                FunctionDef {
+                    variadic: Some(name),
+                    ..
+                },
+            ) => match self.arg(name.as_slice()) {
                 Some(arg) => !arg.replaced().is_empty(),
                 None => false,
             },

@@ -4,9 +4,9 @@ ghost use Rattle.scan_model.specs.Substitution as subst;
 ghost use Rattle.substitution.specs.Meaning.{marked_of, all_marked_of, arg_of, AreMarked, IsArg};
 ghost use Rattle.substitution.specs.Calls.{call_of, Adds};
 
-use crate::{Arg, Marked};
 use crate::call::Call;
 use crate::item::Item;
+use crate::{Arg, Marked};
 use hide_sets::HideSet;
 use scan_model::{Bytes, NoMemory, Tok};
 use std::alloc::Global;

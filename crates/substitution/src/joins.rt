@@ -3,7 +3,6 @@ ghost use Rattle.std.specs.Option.{option_map};
 ghost use Rattle.hide_sets.specs.Sets.{Sets, Extends};
 ghost use Rattle.scan_model.specs.Substitution as subst;
 ghost use Rattle.substitution.specs.Meaning.{marked_of, item_of, items_of, IsMarked, IsItem, AreItems, GivesItem, GivesItems};
-
 ghost use Rattle.substitution.specs.Joins.{joined_with};
 
 use crate::Marked;

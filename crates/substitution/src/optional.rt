@@ -34,10 +34,7 @@ pub(crate) fn add_opt(
 }
 
 /// The tokens that stand for something.
-pub(crate) fn without_placemarkers(
-    alloc: Global,
-    items: Vec<Item>,
-) -> Result<Vec<Marked>, NoMemory>
+pub(crate) fn without_placemarkers(alloc: Global, items: Vec<Item>) -> Result<Vec<Marked>, NoMemory>
     ensures known { IfOk result (λ marked. (sets : Sets) → AreItems sets items.items → AreMarked sets marked.items) }
     ensures value { IfOk result (λ marked. (sets : Sets) → all_marked_of sets marked.items ≡ subst.without_placemarkers (items_of sets items.items)) }
 {

@@ -24,10 +24,7 @@ pub(crate) fn opt_comes(call: &Call, tok: &Tok, after: &[Tok]) -> bool
     if is_hash_operator(call, tok) {
         return opt_after_hash(call, after);
     }
-    !is_paste(tok)
-        && comma_rule(call, tok, after).is_none()
-        && call.is_variadic()
-        && is_opt(tok)
+    !is_paste(tok) && comma_rule(call, tok, after).is_none() && call.is_variadic() && is_opt(tok)
 }
 
 /// Whether the token is the `#` of a function-like macro.
@@ -40,10 +37,7 @@ pub(crate) fn is_hash_operator(call: &Call, tok: &Tok) -> bool
 fn opt_after_hash(call: &Call, after: &[Tok]) -> bool
     ensures { (sets : Sets) → result ≡ opt_after_hash (call_of sets call.now) after.now }
 {
-    !after.is_empty()
-        && call.arg_at(&after[0]).is_none()
-        && call.is_variadic()
-        && is_opt(&after[0])
+    !after.is_empty() && call.arg_at(&after[0]).is_none() && call.is_variadic() && is_opt(&after[0])
 }
 
 /// The variable part, where the token and what follows it are `, ## V`.
@@ -83,7 +77,15 @@ pub(crate) fn add_part<'a>(
     }
     if let Some(arg) = comma_rule(call, tok, after) {
         let rest = &after[2..];
-        add_comma(alloc, items, call, tok, &after[1], arg, begins_with_paste(rest))?;
+        add_comma(
+            alloc,
+            items,
+            call,
+            tok,
+            &after[1],
+            arg,
+            begins_with_paste(rest),
+        )?;
         return Ok(Some(PartEnd {
             pasted: false,
             after: rest,

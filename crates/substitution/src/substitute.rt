@@ -52,13 +52,7 @@ pub fn substitute_function(
         args,
         line: name.line,
     };
-    put_in(
-        alloc,
-        sets,
-        &call,
-        name.space,
-        definition.body.as_slice(),
-    )
+    put_in(alloc, sets, &call, name.space, definition.body.as_slice())
 }
 
 fn put_in(

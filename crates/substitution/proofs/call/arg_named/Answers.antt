@@ -1,4 +1,4 @@
-use Rattle.std.proofs.Common.{◌≡◌, sym, ◌∙◌, add-one}
+use Rattle.std.proofs.Common.{sym, ◌∙◌, add-one}
 use Rattle.scan_model.specs.MacroDefinition.{all_params}
 use Rattle.substitution.proofs.CallLemmas.{named-more, named-end}
 use Rattle.substitution.proofs.call.arg_named.Goals as goal

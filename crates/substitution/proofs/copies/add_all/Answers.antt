@@ -1,6 +1,5 @@
-use Rattle.std.proofs.Common.{◌≡◌, sym, ◌∙◌, ap, List, ◌++◌, ◌∷◌, []}
+use Rattle.std.proofs.Common.{◌∙◌, ap, ◌++◌, ◌∷◌, []}
 use Rattle.substitution.specs.declared.marked.Marked.{Marked}
-use Rattle.substitution.specs.declared.item.Item.{Item}
 use Rattle.substitution.specs.declared.item.Item.TheVariants.{Operand}
 use Rattle.substitution.proofs.AddLemmas.{operands-more}
 use Rattle.substitution.proofs.copies.add_all.Goals as goal

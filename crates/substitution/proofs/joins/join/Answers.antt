@@ -1,4 +1,4 @@
-use Rattle.std.proofs.Common.{◌≡◌, sym}
+use Rattle.std.proofs.Common.{sym}
 use Rattle.substitution.proofs.joins.join.Goals as goal
 
 pub returns-in-Placemarker-clause-value : goal.returns-in-Placemarker-clause-value

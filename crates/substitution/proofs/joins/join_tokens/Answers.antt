@@ -1,4 +1,4 @@
-use Rattle.std.proofs.Common.{◌≡◌, sym, ◌∙◌, ap, Some, List, ℕ, Bool, ◌&&◌, Option}
+use Rattle.std.proofs.Common.{sym, ◌∙◌, ap, Some, List, ℕ, Bool, ◌&&◌, Option}
 use Rattle.std.specs.Option.{option_map}
 use Rattle.scan_model.specs.declared.token.Tok.{Tok}
 use Rattle.scan_model.specs.Substitution as subst

@@ -1,4 +1,4 @@
-use Rattle.std.proofs.Common.{◌≡◌, sym, ◌∙◌, ap, subst, Bool, not, ◌&&◌, ◌<◌, length, rules, arith, []}
+use Rattle.std.proofs.Common.{◌≡◌, ap, subst, not, ◌&&◌, ◌<◌, length, rules, arith, []}
 use Rattle.std.proofs.lemmas.List.{nil_from_length}
 use Rattle.std.specs.Vec.Iter.{into_iter_items}
 use Rattle.scan_model.specs.Substitution as spec
@@ -17,4 +17,4 @@ returns c = λ sets h.
     let some : 0 < length c.args.content.items = search rules in
     let none : into_iter_items c.items.rest ≡ [] = nil_from_length (into_iter_items c.items.rest) (omega (arith, c.in_default.ensures.cases.0, c.items.rest.rest.ok.0)) in
     subst (λ s. Adds sets c.args.items.now.items c.items.items.items (spec.first_item_spaced c.args.space s)) (or_placemarker-some sets c.args.content.items some)
-      (spacing-end sets c.args.items.now.items c.items.items.items c.args.content.items (into_iter_items c.items.rest) c.args.space c.items.first none (c.items.invariant sets h))
+    (spacing-end sets c.args.items.now.items c.items.items.items c.args.content.items (into_iter_items c.items.rest) c.args.space c.items.first none (c.items.invariant sets h))

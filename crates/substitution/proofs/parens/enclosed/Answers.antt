@@ -1,5 +1,5 @@
-use Rattle.std.proofs.Common.{◌≡◌, arith}
-use Rattle.substitution.proofs.ParensLemmas.{enclosed-start, enclosed-more, enclosed-found, enclosed-end}
+use Rattle.std.proofs.Common.{arith}
+use Rattle.substitution.proofs.ParensLemmas.{enclosed-start}
 use Rattle.substitution.proofs.parens.enclosed.Goals as goal
 
 pub toks-init : goal.toks-init

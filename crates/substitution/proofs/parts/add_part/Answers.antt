@@ -1,9 +1,9 @@
-use Rattle.std.proofs.Common.{◌≡◌, sym, ◌∙◌, ap, subst, refl, false, ◌<◌, ◌≤◌, List, length, drop, slice_index_or, get_or, Option, Some, arith, []}
+use Rattle.std.proofs.Common.{◌≡◌, sym, ◌∙◌, ap, refl, ◌<◌, length, drop, get_or, arith, []}
 use Rattle.std.proofs.lemmas.List.{take_rest, get_or_read}
 use Rattle.scan_model.specs.declared.token.Tok.{Tok}
 use Rattle.scan_model.specs.Substitution as spec
 use Rattle.substitution.specs.Meaning.{arg_of}
-use Rattle.substitution.specs.Calls.{call_of, GivesPart, comma_part_of}
+use Rattle.substitution.specs.Calls.{call_of}
 use Rattle.substitution.proofs.PartLemmas.{comma-comes, gives-by}
 use Rattle.substitution.proofs.AddLemmas.{adds-same}
 use Rattle.scan_model.specs.TokenTests.{begins_with, is_paste}
@@ -27,6 +27,6 @@ returns-in-Some-clause-value c = λ sets known inner.
     let variable : c.index-after-1.result ≡ get_or c.args.after.now 1 c.args.tok.now = get_or_read c.args.after.now 1 c.index-after-1.result (c.in-Some.ensures.some sets).0 c.index-after-1.is c.args.tok.now in
     let next : c.begins_with_paste.result ≡ begins_with is_paste (drop 2 c.args.after.now) = c.begins_with_paste.ensures ∙ ap (begins_with is_paste) rest in
     let items : spec.comma_items call c.args.tok.now c.index-after-1.result a c.begins_with_paste.result ≡ spec.comma_items call c.args.tok.now (get_or c.args.after.now 1 c.args.tok.now) a (begins_with is_paste (drop 2 c.args.after.now)) =
-      ap (λ (v : Tok). spec.comma_items call c.args.tok.now v a c.begins_with_paste.result) variable ∙ ap (spec.comma_items call c.args.tok.now (get_or c.args.after.now 1 c.args.tok.now) a) next in
+    ap (λ (v : Tok). spec.comma_items call c.args.tok.now v a c.begins_with_paste.result) variable ∙ ap (spec.comma_items call c.args.tok.now (get_or c.args.after.now 1 c.args.tok.now) a) next in
     gives-by sets c.args.items.now.items c.add_comma.new.items.items _ _ (drop 2 c.args.after.now) _ whole
-      (adds-same sets c.args.items.now.items c.add_comma.new.items.items _ _ items (c.in_ok-add_comma.ensures sets (c.in-Some.ensures.known sets known))) refl (sym rest)
+    (adds-same sets c.args.items.now.items c.add_comma.new.items.items _ _ items (c.in_ok-add_comma.ensures sets (c.in-Some.ensures.known sets known))) refl (sym rest)

@@ -1,4 +1,4 @@
-use Rattle.std.proofs.Common.{◌≡◌, ◌∙◌, ap, refl, ◌≤◌, length, Some, None, arith}
+use Rattle.std.proofs.Common.{◌∙◌, ap, refl, length, Some, None, arith}
 use Rattle.substitution.specs.Meaning.{items_of}
 use Rattle.substitution.specs.Calls.{call_of}
 use Rattle.substitution.proofs.SubstituteLemmas.{subst-by}
@@ -22,5 +22,5 @@ returns-clause-value c =
     record {
       known = c.in_ok-finished.ensures.known c.joined.new.sets whole.known;
       meant = ap Some (c.in_ok-finished.ensures.value c.joined.new.sets)
-        ∙ subst-by (call_of c.args.sets.now c.args.call.now) c.args.space c.args.body.now (Some (items_of c.list_items.new.sets c.in-Some.items.items)) (Some (items_of c.joined.new.sets c.in-Some-2.items.items)) (list (length c.args.body.now) (omega arith)).meant whole.meant;
+          ∙ subst-by (call_of c.args.sets.now c.args.call.now) c.args.space c.args.body.now (Some (items_of c.list_items.new.sets c.in-Some.items.items)) (Some (items_of c.joined.new.sets c.in-Some-2.items.items)) (list (length c.args.body.now) (omega arith)).meant whole.meant;
     }
