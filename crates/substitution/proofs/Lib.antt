@@ -8,3 +8,4 @@ pub mod PartLemmas
 pub mod OptionalLemmas
 pub mod ListLemmas
 pub mod SubstituteLemmas
+pub mod AloneLemmas

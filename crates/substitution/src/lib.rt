@@ -1,6 +1,7 @@
 //! A macro's replacement list with its arguments put in ([cpp.subst], [cpp.stringize], [cpp.concat]).
 #![tactic(auto)]
 
+mod alone;
 mod call;
 mod copies;
 mod item;
@@ -14,6 +15,7 @@ mod strings;
 mod substitute;
 mod token_tests;
 
+pub use alone::is_replaced;
 pub use marked::{Arg, Marked};
 pub use substitute::{substitute_function, substitute_object};
 

@@ -62,3 +62,17 @@ pub(crate) fn begins_with_paste(toks: &[Tok]) -> bool
 {
     !toks.is_empty() && is_paste(&toks[0])
 }
+
+/// Whether a `#` comes first.
+pub(crate) fn begins_with_hash(toks: &[Tok]) -> bool
+    ensures { result ≡ begins_with is_hash toks.now }
+{
+    !toks.is_empty() && is_hash(&toks[0])
+}
+
+/// Whether a comma comes first.
+pub(crate) fn begins_with_comma(toks: &[Tok]) -> bool
+    ensures { result ≡ begins_with is_comma toks.now }
+{
+    !toks.is_empty() && is_comma(&toks[0])
+}
