@@ -33,9 +33,9 @@ args_of-flagged e f [] written cost counter = refl
 args_of-flagged e f (name ∷ names) [] cost counter = refl
 args_of-flagged e f (name ∷ names) (w ∷ written) cost counter =
     ap (λ (further : ℕ → ℕ → Replaced).
-      if is_replaced f name
-      then after_arg (expands e) e (λ ms c k. with_arg (expands e) e (record { written = w; replaced = ms }) (further c k)) (expands e w cost counter)
-      else with_arg (expands e) e (record { written = w; replaced = w }) (further cost counter))
+    if is_replaced f name
+    then after_arg (expands e) e (λ ms c k. with_arg (expands e) e (record { written = w; replaced = ms }) (further c k)) (expands e w cost counter)
+    else with_arg (expands e) e (record { written = w; replaced = w }) (further cost counter))
     (λ i c k. args_of-flagged e f names written c k i)
 
 with_args-none : (r : Replaced) → with_args [] r ≡ r
@@ -59,7 +59,7 @@ pub call-misfit : (e : expansion.Scope) (m : Machine) (f : FunctionDef) (name : 
     Gives.Bad ≡ expansion.answer_of (continued e m (expansion.call (expands e) e f (marked_of m.sets name) m.cost m.counter (in_parens (λ m. m.tok) (all_marked_of m.sets m.todo))))
 call-misfit e m f name new p h misfit =
     ends-as e m _ Gives.Bad (closed e m f name new p h
-      ∙ ap (call_with (expands e) e f (marked_of m.sets name) (record { inside = all_marked_of m.sets p.inside.items; close = marked_of m.sets p.close; after = all_marked_of m.sets new }) m.cost m.counter) (sym misfit))
+    ∙ ap (call_with (expands e) e f (marked_of m.sets name) (record { inside = all_marked_of m.sets p.inside.items; close = marked_of m.sets p.close; after = all_marked_of m.sets new }) m.cost m.counter) (sym misfit))
 
 pub call-begins : (e : expansion.Scope) (m : Machine) (f : FunctionDef) (new : List Marked) (p : Parens) (args : List (Vec Marked Global)) (call : Call) →
     Encloses m.todo new p → Some (all_lists_of m.sets args) ≡ written_args f (all_marked_of m.sets p.inside.items) →
@@ -69,12 +69,12 @@ pub call-begins : (e : expansion.Scope) (m : Machine) (f : FunctionDef) (new : L
 call-begins e m f new p args call h fits further definition close none before rest =
     let name = marked_of m.sets call.name in
     let ran : List spec.Marked → (List ℕ → Bool) → List spec.Marked → FunctionDef → Replaced → Ran =
-        λ (b : List spec.Marked) (c : List ℕ → Bool) (r : List spec.Marked) (g : FunctionDef) (rs : Replaced). around e m (outs b (called (expands e) e g name c r rs)) in
+    λ (b : List spec.Marked) (c : List ℕ → Bool) (r : List spec.Marked) (g : FunctionDef) (rs : Replaced). around e m (outs b (called (expands e) e g name c r rs)) in
     let c = hides_of m.sets call.close in
     ap (λ (ws : List meaning.Written). ran (all_marked_of m.sets call.before.items) c (all_marked_of m.sets call.rest) call.definition.now (with_args (map (arg_of m.sets) call.args.items) (args_of e ws m.cost m.counter))) further
     ∙ ap (λ (as' : List Arg). ran (all_marked_of m.sets call.before.items) c (all_marked_of m.sets call.rest) call.definition.now (with_args (map (arg_of m.sets) as') (args_of e (flagged f (all_params f.params f.variadic) (all_lists_of m.sets args)) m.cost m.counter))) none
     ∙ ap (ran (all_marked_of m.sets call.before.items) c (all_marked_of m.sets call.rest) call.definition.now)
-      (with_args-none (args_of e (flagged f (all_params f.params f.variadic) (all_lists_of m.sets args)) m.cost m.counter) ∙ args_of-flagged e f (all_params f.params f.variadic) (all_lists_of m.sets args) m.cost m.counter)
+    (with_args-none (args_of e (flagged f (all_params f.params f.variadic) (all_lists_of m.sets args)) m.cost m.counter) ∙ args_of-flagged e f (all_params f.params f.variadic) (all_lists_of m.sets args) m.cost m.counter)
     ∙ ap (λ (b : List Marked). ran (all_marked_of m.sets b) c (all_marked_of m.sets call.rest) call.definition.now (replaced_args (expands e) e f (all_params f.params f.variadic) (all_lists_of m.sets args) m.cost m.counter)) before
     ∙ ap (λ (s : ℕ). ran (all_marked_of m.sets m.out.items) (hides_of m.sets s) (all_marked_of m.sets call.rest) call.definition.now (replaced_args (expands e) e f (all_params f.params f.variadic) (all_lists_of m.sets args) m.cost m.counter)) close
     ∙ ap (λ (r : List Marked). ran (all_marked_of m.sets m.out.items) (hides_of m.sets p.close.hides) (all_marked_of m.sets r) call.definition.now (replaced_args (expands e) e f (all_params f.params f.variadic) (all_lists_of m.sets args) m.cost m.counter)) rest

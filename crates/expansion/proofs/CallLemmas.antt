@@ -49,25 +49,25 @@ pub begin-goes : (e : expansion.Scope) (m : Machine) (p : Pending) (list todo : 
     (length list + weight_of_call p.call + weight_beside m + 1) (record m { calls = calls; out = out; todo = todo })
 begin-goes e m p list todo calls out valid call known w cs o t =
     let weights : sum_by (λ p. weight_of_call p.call) calls.items ≡ sum_by (λ p. weight_of_call p.call) m.calls.items + weight_of_call p.call =
-        ap (sum_by (λ (p : Pending). weight_of_call p.call)) cs ∙ sum_by_push (λ (p : Pending). weight_of_call p.call) m.calls.items p in
+    ap (sum_by (λ (p : Pending). weight_of_call p.call)) cs ∙ sum_by_push (λ (p : Pending). weight_of_call p.call) m.calls.items p in
     let same_length : length todo ≡ length list = ap length t in
     record {
       valid = record {
         todo = subst (AreMarked m.sets) (sym t) known;
         out = subst (AreMarked m.sets) (sym o) (All-nil (IsMarked m.sets));
         calls = subst (λ (ps : List Pending). All (IsPending m.sets) ps) (sym cs)
-          (All-push (IsPending m.sets) m.calls.items p valid.calls (record { call = call; written = subst (AreMarked m.sets) (sym w) known }));
+            (All-push (IsPending m.sets) m.calls.items p valid.calls (record { call = call; written = subst (AreMarked m.sets) (sym w) known }));
         cost = valid.cost;
         counter = valid.counter;
       };
       less = omega arith;
       same = ap (λ (ps : List Pending). all_resumed e (map (pending_of m.sets) ps) (outs (all_marked_of m.sets out.items) (expands e (all_marked_of m.sets todo) m.cost m.counter))) cs
-        ∙ ap (λ (ps : List meaning.Pending). all_resumed e ps (outs (all_marked_of m.sets out.items) (expands e (all_marked_of m.sets todo) m.cost m.counter))) (map-append (pending_of m.sets) m.calls.items (p ∷ []))
-        ∙ all_resumed-push e (map (pending_of m.sets) m.calls.items) (pending_of m.sets p) (outs (all_marked_of m.sets out.items) (expands e (all_marked_of m.sets todo) m.cost m.counter))
-        ∙ ap (λ (o : List Marked). around e m (resumed e (pending_of m.sets p) (outs (all_marked_of m.sets o) (expands e (all_marked_of m.sets todo) m.cost m.counter)))) o
-        ∙ ap (λ (r : Ran). around e m (resumed e (pending_of m.sets p) r)) (outs-nil (expands e (all_marked_of m.sets todo) m.cost m.counter))
-        ∙ ap (λ (ms : List Marked). around e m (resumed e (pending_of m.sets p) (expands e (all_marked_of m.sets ms) m.cost m.counter))) t
-        ∙ ap (λ (ms : List Marked). around e m (resumed e (record { call = call_of m.sets p.call; written = all_marked_of m.sets ms }) (expands e (all_marked_of m.sets list) m.cost m.counter))) w;
+          ∙ ap (λ (ps : List meaning.Pending). all_resumed e ps (outs (all_marked_of m.sets out.items) (expands e (all_marked_of m.sets todo) m.cost m.counter))) (map-append (pending_of m.sets) m.calls.items (p ∷ []))
+          ∙ all_resumed-push e (map (pending_of m.sets) m.calls.items) (pending_of m.sets p) (outs (all_marked_of m.sets out.items) (expands e (all_marked_of m.sets todo) m.cost m.counter))
+          ∙ ap (λ (o : List Marked). around e m (resumed e (pending_of m.sets p) (outs (all_marked_of m.sets o) (expands e (all_marked_of m.sets todo) m.cost m.counter)))) o
+          ∙ ap (λ (r : Ran). around e m (resumed e (pending_of m.sets p) r)) (outs-nil (expands e (all_marked_of m.sets todo) m.cost m.counter))
+          ∙ ap (λ (ms : List Marked). around e m (resumed e (pending_of m.sets p) (expands e (all_marked_of m.sets ms) m.cost m.counter))) t
+          ∙ ap (λ (ms : List Marked). around e m (resumed e (record { call = call_of m.sets p.call; written = all_marked_of m.sets ms }) (expands e (all_marked_of m.sets list) m.cost m.counter))) w;
     }
 
 -- ## An argument is done
@@ -90,7 +90,7 @@ module _ (sets : Sets) (old new : Call) (written : Vec Marked Global) (replaced 
       ap (λ (c : meaning.Call). call_ran e c (args_of e (map (written_of sets) new.further.items) cost counter)) call_of-added
       ∙ ap (λ (ws : List Written). call_ran e (record (call_of sets old) { args = map (arg_of sets) old.args.items ++ arg_of sets (record { written = written.items; replaced = option_map (λ v. v.items) replaced }) ∷ [] }) (args_of e (map (written_of sets) ws) cost counter)) added.further
       ∙ ap (λ (r : Replaced). outs (all_marked_of sets old.before.items) (expansion.called (expands e) e old.definition.now (marked_of sets old.name) (hides_of sets old.close) (all_marked_of sets old.rest) r))
-        (with_args-push e (map (arg_of sets) old.args.items) (arg_of sets (record { written = written.items; replaced = option_map (λ v. v.items) replaced })) (args_of e (map (written_of sets) old.further.items) cost counter))
+      (with_args-push e (map (arg_of sets) old.args.items) (arg_of sets (record { written = written.items; replaced = option_map (λ v. v.items) replaced })) (args_of e (map (written_of sets) old.further.items) cost counter))
 
   pub IsCall-added : IsCall sets old → IsArg sets (record { written = written.items; replaced = option_map (λ v. v.items) replaced }) → IsCall sets new
   IsCall-added h a = record {
@@ -115,9 +115,12 @@ module _ (sets : Sets) (c : Call) (further : VecDeque Written Global) (w : Writt
 
   pub IsCall-popped : IsCall sets c → IsCall sets (record c { further = further })
   IsCall-popped h = record {
-    name = h.name; close = h.close; args = h.args;
+    name = h.name;
+    close = h.close;
+    args = h.args;
     further = All-tail (λ w. AreMarked sets w.list.items) w further.items (subst (λ (ws : List Written). All (λ w. AreMarked sets w.list.items) ws) popped h.further);
-    before = h.before; rest = h.rest;
+    before = h.before;
+    rest = h.rest;
   }
 
   pub AreMarked-popped : IsCall sets c → AreMarked sets w.list.items
@@ -158,8 +161,8 @@ pub common-added : (s0 s1 s2 s3 : Sets) (name : Marked) (close common added : �
 common-added s0 s1 s2 s3 name close common added text x n k both made t =
     made.meant ∙ ap (λ (t : List ℕ). also t (hides_of s2 common)) t
     ∙ ap (also name.tok.text) (both.meant
-      ∙ ap (λ (f : List ℕ → Bool). λ (n : List ℕ). f n && hides_of s1 close n) (hides_of-Extends s0 s1 name.hides x n)
-      ∙ ap (λ (f : List ℕ → Bool). λ (n : List ℕ). hides_of s0 name.hides n && f n) (hides_of-Extends s0 s1 close x k))
+    ∙ ap (λ (f : List ℕ → Bool). λ (n : List ℕ). f n && hides_of s1 close n) (hides_of-Extends s0 s1 name.hides x n)
+    ∙ ap (λ (f : List ℕ → Bool). λ (n : List ℕ). hides_of s0 name.hides n && f n) (hides_of-Extends s0 s1 close x k))
 
 -- the definition's arguments are those that are done
 pub call_ran-done : (e : expansion.Scope) (m : Machine) (c : Call) →
@@ -189,7 +192,8 @@ module _ (m : Machine) (p : Pending) (calls : Vec Pending Global) (out : Vec Mar
     todo = h.todo;
     out = subst (AreMarked m.sets) (sym o) (All-nil (IsMarked m.sets));
     calls = (All-pop (IsPending m.sets) m.calls.items calls.items (Some p) cs h.calls).0;
-    cost = h.cost; counter = h.counter;
+    cost = h.cost;
+    counter = h.counter;
   }
 
   pub IsPending-ended : IsMachine m → IsPending m.sets p
@@ -198,7 +202,7 @@ module _ (m : Machine) (p : Pending) (calls : Vec Pending Global) (out : Vec Mar
   pub weight_beside-ended : weight_beside m ≡ weight_of_call p.call + weight_beside (record m { calls = calls; out = out })
   weight_beside-ended =
       let weights : sum_by (λ p. weight_of_call p.call) m.calls.items ≡ sum_by (λ p. weight_of_call p.call) calls.items + weight_of_call p.call =
-          ap (sum_by (λ (p : Pending). weight_of_call p.call)) cs ∙ sum_by_push (λ (p : Pending). weight_of_call p.call) calls.items p in
+      ap (sum_by (λ (p : Pending). weight_of_call p.call)) cs ∙ sum_by_push (λ (p : Pending). weight_of_call p.call) calls.items p in
       omega arith
 
   -- the argument is what went out
@@ -206,7 +210,7 @@ module _ (m : Machine) (p : Pending) (calls : Vec Pending Global) (out : Vec Mar
       around e (record m { calls = calls; out = out }) (ran_of_call e m.sets call m.cost m.counter) ≡ continued e m (Went [] m.cost m.counter)
   end-argument e call added =
       ap (around e (record m { calls = calls; out = out })) (ran_of_call-added m.sets p.call call p.written (Some m.out) added e m.cost m.counter
-        ∙ ap (λ (ms : List spec.Marked). resumed e (pending_of m.sets p) (Went ms m.cost m.counter)) (sym (append-nil (all_marked_of m.sets m.out.items))))
+      ∙ ap (λ (ms : List spec.Marked). resumed e (pending_of m.sets p) (Went ms m.cost m.counter)) (sym (append-nil (all_marked_of m.sets m.out.items))))
       ∙ sym (all_resumed-push e (map (pending_of m.sets) calls.items) (pending_of m.sets p) (Went (all_marked_of m.sets m.out.items ++ []) m.cost m.counter))
       ∙ ap (λ (ps : List meaning.Pending). all_resumed e ps (Went (all_marked_of m.sets m.out.items ++ []) m.cost m.counter)) (sym (map-append (pending_of m.sets) calls.items (p ∷ [])))
       ∙ ap (λ (ps : List Pending). all_resumed e (map (pending_of m.sets) ps) (Went (all_marked_of m.sets m.out.items ++ []) m.cost m.counter)) (sym cs)

@@ -19,8 +19,6 @@ use Rattle.expansion.specs.Cuts.{Encloses, TakesParens, all_lists_of, AreKnown, 
 
 -- ## Parentheses
 
-
-
 abbrev pub before : List spec.Marked → Enclosed spec.Marked → Enclosed spec.Marked
 before ms e = record e { inside = ms ++ e.inside }
 
@@ -56,11 +54,11 @@ enclosing-next start inside inside' depth depth' rest rest' m r i goes d le h = 
   parts = h.parts ∙ ap (λ (xs : List Marked). inside ++ xs) r ∙ sym (append_assoc inside (m ∷ []) rest') ∙ ap (λ (xs : List Marked). xs ++ rest') (sym i);
   deep = omega (arith, h.deep, ap length i, length-append inside (m ∷ []));
   meant = λ sets. h.meant sets
-    ∙ ap (λ (xs : List Marked). option_map (before (all_marked_of sets inside)) (enclosed (λ m. m.tok) depth (all_marked_of sets xs))) r
-    ∙ ap (option_map (before (all_marked_of sets inside))) (choose-further (depth == 0 && is_close_paren m.tok) _ _ goes)
-    ∙ before-push (all_marked_of sets inside) (marked_of sets m) (enclosed (λ m. m.tok) (depth_after m.tok depth) (all_marked_of sets rest'))
-    ∙ ap (λ (k : ℕ). option_map (before ((all_marked_of sets inside ++ marked_of sets m ∷ []))) (enclosed (λ m. m.tok) k (all_marked_of sets rest'))) (sym d)
-    ∙ ap (λ (xs : List spec.Marked). option_map (before (xs)) (enclosed (λ m. m.tok) depth' (all_marked_of sets rest')))
+      ∙ ap (λ (xs : List Marked). option_map (before (all_marked_of sets inside)) (enclosed (λ m. m.tok) depth (all_marked_of sets xs))) r
+      ∙ ap (option_map (before (all_marked_of sets inside))) (choose-further (depth == 0 && is_close_paren m.tok) _ _ goes)
+      ∙ before-push (all_marked_of sets inside) (marked_of sets m) (enclosed (λ m. m.tok) (depth_after m.tok depth) (all_marked_of sets rest'))
+      ∙ ap (λ (k : ℕ). option_map (before ((all_marked_of sets inside ++ marked_of sets m ∷ []))) (enclosed (λ m. m.tok) k (all_marked_of sets rest'))) (sym d)
+      ∙ ap (λ (xs : List spec.Marked). option_map (before (xs)) (enclosed (λ m. m.tok) depth' (all_marked_of sets rest')))
       (sym (map-append (marked_of sets) inside (m ∷ [])) ∙ ap (all_marked_of sets) (sym i));
 }
 
@@ -71,11 +69,11 @@ enclosing-closed old start first p depth rest rest' o is_open r closes h = recor
   first = first;
   parts = o ∙ ap (λ (xs : List Marked). first ∷ xs) (h.parts ∙ ap (λ (xs : List Marked). p.inside.items ++ xs) r);
   meant = λ sets. ap (λ (xs : List Marked). in_parens (λ m. m.tok) (all_marked_of sets xs)) o
-    ∙ choose-close (is_open_paren first.tok) _ _ is_open
-    ∙ h.meant sets
-    ∙ ap (λ (xs : List Marked). option_map (before (all_marked_of sets p.inside.items)) (enclosed (λ m. m.tok) depth (all_marked_of sets xs))) r
-    ∙ ap (option_map (before (all_marked_of sets p.inside.items))) (choose-close (depth == 0 && is_close_paren p.close.tok) _ _ closes)
-    ∙ ap (λ (xs : List spec.Marked). let made : Option (Enclosed spec.Marked) = Some (record { inside = xs; close = marked_of sets p.close; after = all_marked_of sets rest' }) in made) (append-nil (all_marked_of sets p.inside.items));
+      ∙ choose-close (is_open_paren first.tok) _ _ is_open
+      ∙ h.meant sets
+      ∙ ap (λ (xs : List Marked). option_map (before (all_marked_of sets p.inside.items)) (enclosed (λ m. m.tok) depth (all_marked_of sets xs))) r
+      ∙ ap (option_map (before (all_marked_of sets p.inside.items))) (choose-close (depth == 0 && is_close_paren p.close.tok) _ _ closes)
+      ∙ ap (λ (xs : List spec.Marked). let made : Option (Enclosed spec.Marked) = Some (record { inside = xs; close = marked_of sets p.close; after = all_marked_of sets rest' }) in made) (append-nil (all_marked_of sets p.inside.items));
 }
 
 -- ## Where there are none
@@ -170,15 +168,15 @@ cutting-goes most start args arg arg' depth depth' rest rest' m r a d le goes h 
       deep = omega (arith, h.deep);
       counted = omega (arith, h.counted);
       known = λ sets k.
-        let known = h.known sets k in
-        let all = All-same (IsMarked sets) (m ∷ rest') rest (sym r) known.2 in
-        (known.0, All-same (IsMarked sets) arg' (arg ++ m ∷ []) a (All-push (IsMarked sets) arg m known.1 (All-head (IsMarked sets) m rest' all)), All-tail (IsMarked sets) m rest' all);
+          let known = h.known sets k in
+          let all = All-same (IsMarked sets) (m ∷ rest') rest (sym r) known.2 in
+          (known.0, All-same (IsMarked sets) arg' (arg ++ m ∷ []) a (All-push (IsMarked sets) arg m known.1 (All-head (IsMarked sets) m rest' all)), All-tail (IsMarked sets) m rest' all);
       meant = λ sets. h.meant sets
-        ∙ ap (λ (xs : List Marked). all_lists_of sets args ++ prefix (all_marked_of sets arg) (cut_at_commas (most - length args) depth (all_marked_of sets xs))) r
-        ∙ ap (λ (ws : List (List spec.Marked)). all_lists_of sets args ++ prefix (all_marked_of sets arg) ws) (cut-goes (most - length args) depth (marked_of sets m) (all_marked_of sets rest') (λ lt. goes (omega arith)))
-        ∙ ap (λ (ws : List (List spec.Marked)). all_lists_of sets args ++ ws) (prefix-push (all_marked_of sets arg) (marked_of sets m) (cut_at_commas (most - length args) (depth_after m.tok depth) (all_marked_of sets rest')))
-        ∙ ap (λ (k : ℕ). all_lists_of sets args ++ prefix (all_marked_of sets arg ++ marked_of sets m ∷ []) (cut_at_commas (most - length args) k (all_marked_of sets rest'))) (sym d)
-        ∙ ap (λ (xs : List spec.Marked). all_lists_of sets args ++ prefix xs (cut_at_commas (most - length args) depth' (all_marked_of sets rest'))) (sym (map-append (marked_of sets) arg (m ∷ [])) ∙ ap (all_marked_of sets) (sym a));
+          ∙ ap (λ (xs : List Marked). all_lists_of sets args ++ prefix (all_marked_of sets arg) (cut_at_commas (most - length args) depth (all_marked_of sets xs))) r
+          ∙ ap (λ (ws : List (List spec.Marked)). all_lists_of sets args ++ prefix (all_marked_of sets arg) ws) (cut-goes (most - length args) depth (marked_of sets m) (all_marked_of sets rest') (λ lt. goes (omega arith)))
+          ∙ ap (λ (ws : List (List spec.Marked)). all_lists_of sets args ++ ws) (prefix-push (all_marked_of sets arg) (marked_of sets m) (cut_at_commas (most - length args) (depth_after m.tok depth) (all_marked_of sets rest')))
+          ∙ ap (λ (k : ℕ). all_lists_of sets args ++ prefix (all_marked_of sets arg ++ marked_of sets m ∷ []) (cut_at_commas (most - length args) k (all_marked_of sets rest'))) (sym d)
+          ∙ ap (λ (xs : List spec.Marked). all_lists_of sets args ++ prefix xs (cut_at_commas (most - length args) depth' (all_marked_of sets rest'))) (sym (map-append (marked_of sets) arg (m ∷ [])) ∙ ap (all_marked_of sets) (sym a));
     }
 
 pub cutting-cut : (most : ℕ) (start : List Marked) (args args' : List (Vec Marked Global)) (arg : Vec Marked Global) (arg' : List Marked) (depth : ℕ) (rest rest' : List Marked) (m : Marked) →
@@ -195,18 +193,18 @@ cutting-cut most start args args' arg arg' depth rest rest' m r a n lt cut zero_
       deep = omega arith;
       counted = omega (arith, h.counted);
       known = λ sets k.
-        let known = h.known sets k in
-        let all = All-same (IsMarked sets) (m ∷ rest') rest (sym r) known.2 in
-        (All-same (λ v. AreMarked sets v.items) args' (args ++ arg ∷ []) a (All-push (λ v. AreMarked sets v.items) args arg known.0 known.1), All-same (IsMarked sets) arg' [] n (All-nil (IsMarked sets)), All-tail (IsMarked sets) m rest' all);
+          let known = h.known sets k in
+          let all = All-same (IsMarked sets) (m ∷ rest') rest (sym r) known.2 in
+          (All-same (λ v. AreMarked sets v.items) args' (args ++ arg ∷ []) a (All-push (λ v. AreMarked sets v.items) args arg known.0 known.1), All-same (IsMarked sets) arg' [] n (All-nil (IsMarked sets)), All-tail (IsMarked sets) m rest' all);
       meant = λ sets. h.meant sets
-        ∙ ap (λ (xs : List Marked). all_lists_of sets args ++ prefix (all_marked_of sets arg.items) (cut_at_commas (most - length args) depth (all_marked_of sets xs))) r
-        ∙ ap (λ (k : ℕ). all_lists_of sets args ++ prefix (all_marked_of sets arg.items) (cut_at_commas k depth (marked_of sets m ∷ all_marked_of sets rest'))) one_less
-        ∙ ap (λ (ws : List (List spec.Marked)). all_lists_of sets args ++ prefix (all_marked_of sets arg.items) ws) (cut-here (most - length args') depth (marked_of sets m) (all_marked_of sets rest') cut)
-        ∙ ap (λ (xs : List spec.Marked). all_lists_of sets args ++ xs ∷ cut_at_commas (most - length args') depth (all_marked_of sets rest')) (append-nil (all_marked_of sets arg.items))
-        ∙ sym (append_assoc (all_lists_of sets args) (all_marked_of sets arg.items ∷ []) (cut_at_commas (most - length args') depth (all_marked_of sets rest')))
-        ∙ ap (λ (ws : List (List spec.Marked)). ws ++ cut_at_commas (most - length args') depth (all_marked_of sets rest')) (sym (map-append (λ v. all_marked_of sets v.items) args (arg ∷ [])) ∙ ap (all_lists_of sets) (sym a))
-        ∙ ap (λ (ws : List (List spec.Marked)). all_lists_of sets args' ++ ws) (sym (prefix-nil (most - length args') depth (all_marked_of sets rest')))
-        ∙ ap (λ (xs : List Marked). all_lists_of sets args' ++ prefix (all_marked_of sets xs) (cut_at_commas (most - length args') depth (all_marked_of sets rest'))) (sym n);
+          ∙ ap (λ (xs : List Marked). all_lists_of sets args ++ prefix (all_marked_of sets arg.items) (cut_at_commas (most - length args) depth (all_marked_of sets xs))) r
+          ∙ ap (λ (k : ℕ). all_lists_of sets args ++ prefix (all_marked_of sets arg.items) (cut_at_commas k depth (marked_of sets m ∷ all_marked_of sets rest'))) one_less
+          ∙ ap (λ (ws : List (List spec.Marked)). all_lists_of sets args ++ prefix (all_marked_of sets arg.items) ws) (cut-here (most - length args') depth (marked_of sets m) (all_marked_of sets rest') cut)
+          ∙ ap (λ (xs : List spec.Marked). all_lists_of sets args ++ xs ∷ cut_at_commas (most - length args') depth (all_marked_of sets rest')) (append-nil (all_marked_of sets arg.items))
+          ∙ sym (append_assoc (all_lists_of sets args) (all_marked_of sets arg.items ∷ []) (cut_at_commas (most - length args') depth (all_marked_of sets rest')))
+          ∙ ap (λ (ws : List (List spec.Marked)). ws ++ cut_at_commas (most - length args') depth (all_marked_of sets rest')) (sym (map-append (λ v. all_marked_of sets v.items) args (arg ∷ [])) ∙ ap (all_lists_of sets) (sym a))
+          ∙ ap (λ (ws : List (List spec.Marked)). all_lists_of sets args' ++ ws) (sym (prefix-nil (most - length args') depth (all_marked_of sets rest')))
+          ∙ ap (λ (xs : List Marked). all_lists_of sets args' ++ prefix (all_marked_of sets xs) (cut_at_commas (most - length args') depth (all_marked_of sets rest'))) (sym n);
     }
 
 module _ (most : ℕ) (start : List Marked) (args args' : List (Vec Marked Global)) (arg : Vec Marked Global) (depth : ℕ) (rest : List Marked) (a : args' ≡ args ++ arg ∷ []) (r : rest ≡ []) (h : Cutting most start args arg.items depth rest) where

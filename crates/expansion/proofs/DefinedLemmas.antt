@@ -28,4 +28,4 @@ defined-means e sets (p ∷ x ∷ q ∷ rest) =
     let todo : List Marked = p ∷ x ∷ q ∷ rest in
     let in_parens : Bool = is_open_paren p.tok && is_of Ident x.tok && is_close_paren q.tok in
     sym (map-if (found_in sets todo) (is_of Ident p.tok) (Some (p.tok.text, 1)) (if in_parens then Some (x.tok.text, 3) else None)
-      ∙ ap (λ (o : Option (List ℕ × List spec.Marked)). if is_of Ident p.tok then Some (p.tok.text, all_marked_of sets (x ∷ q ∷ rest)) else o) (map-if (found_in sets todo) in_parens (Some (x.tok.text, 3)) None))
+    ∙ ap (λ (o : Option (List ℕ × List spec.Marked)). if is_of Ident p.tok then Some (p.tok.text, all_marked_of sets (x ∷ q ∷ rest)) else o) (map-if (found_in sets todo) in_parens (Some (x.tok.text, 3)) None))

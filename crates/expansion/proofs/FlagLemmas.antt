@@ -37,23 +37,24 @@ flagging-next f names args rest rest' further further' w name r u lt n flag h =
     let less : size rest ≡ (1 + length w.list.items) + size rest' = ap size r ∙ sum_by-cons (λ (v : Vec Marked Global). 1 + length v.items) w.list rest' in
     let longer : length further' ≡ suc (length further) = ap length u ∙ length-append further (w ∷ []) ∙ omega arith in
     let next : drop (length further) names ≡ name ∷ drop (length further') names =
-        drop-cons names (length further) name lt ∙ ap (λ (x : List ℕ). x ∷ drop (suc (length further)) names) (sym n) ∙ ap (λ (k : ℕ). name ∷ drop k names) (sym longer) in
+    drop-cons names (length further) name lt ∙ ap (λ (x : List ℕ). x ∷ drop (suc (length further)) names) (sym n) ∙ ap (λ (k : ℕ). name ∷ drop k names) (sym longer) in
     record {
       counted = omega (arith, h.counted);
       known = λ sets k.
-        let known = h.known sets k in
-        let rests = All-same (λ v. AreMarked sets v.items) (w.list ∷ rest') rest (sym r) known.1 in
-        (All-same (λ w. AreMarked sets w.list.items) further' (further ++ w ∷ []) u (All-push (λ w. AreMarked sets w.list.items) further w known.0 (All-head (λ v. AreMarked sets v.items) w.list rest' rests)),
-         All-tail (λ v. AreMarked sets v.items) w.list rest' rests);
+          let known = h.known sets k in
+          let rests = All-same (λ v. AreMarked sets v.items) (w.list ∷ rest') rest (sym r) known.1 in (
+            All-same (λ w. AreMarked sets w.list.items) further' (further ++ w ∷ []) u (All-push (λ w. AreMarked sets w.list.items) further w known.0 (All-head (λ v. AreMarked sets v.items) w.list rest' rests)),
+            All-tail (λ v. AreMarked sets v.items) w.list rest' rests,
+          );
       meant = λ sets.
-        let made : Bool → meaning.Written = λ (b : Bool). record { list = all_marked_of sets w.list.items; replaced = b } in
-        ap (λ (ws : List Written). map (written_of sets) ws ++ flagged f (drop (length further') names) (all_lists_of sets rest')) u
-        ∙ ap (λ (ws : List meaning.Written). ws ++ flagged f (drop (length further') names) (all_lists_of sets rest')) (map-append (written_of sets) further (w ∷ []))
-        ∙ append_assoc (map (written_of sets) further) (written_of sets w ∷ []) (flagged f (drop (length further') names) (all_lists_of sets rest'))
-        ∙ ap (λ (b : Bool). map (written_of sets) further ++ made b ∷ flagged f (drop (length further') names) (all_lists_of sets rest')) flag
-        ∙ ap (λ (ns : List (List ℕ)). map (written_of sets) further ++ flagged f ns (all_lists_of sets (w.list ∷ rest'))) (sym next)
-        ∙ ap (λ (vs : List (Vec Marked Global)). map (written_of sets) further ++ flagged f (drop (length further) names) (all_lists_of sets vs)) (sym r)
-        ∙ h.meant sets;
+          let made : Bool → meaning.Written = λ (b : Bool). record { list = all_marked_of sets w.list.items; replaced = b } in
+          ap (λ (ws : List Written). map (written_of sets) ws ++ flagged f (drop (length further') names) (all_lists_of sets rest')) u
+          ∙ ap (λ (ws : List meaning.Written). ws ++ flagged f (drop (length further') names) (all_lists_of sets rest')) (map-append (written_of sets) further (w ∷ []))
+          ∙ append_assoc (map (written_of sets) further) (written_of sets w ∷ []) (flagged f (drop (length further') names) (all_lists_of sets rest'))
+          ∙ ap (λ (b : Bool). map (written_of sets) further ++ made b ∷ flagged f (drop (length further') names) (all_lists_of sets rest')) flag
+          ∙ ap (λ (ns : List (List ℕ)). map (written_of sets) further ++ flagged f ns (all_lists_of sets (w.list ∷ rest'))) (sym next)
+          ∙ ap (λ (vs : List (Vec Marked Global)). map (written_of sets) further ++ flagged f (drop (length further) names) (all_lists_of sets vs)) (sym r)
+          ∙ h.meant sets;
     }
 
 flagged-none : (f : FunctionDef) (names : List (List ℕ)) → flagged f names [] ≡ []

@@ -19,7 +19,7 @@ pub record Putting (sets sets' : Sets) (added : ℕ) (list old rest now : List M
   pub rest_known : AreMarked sets rest
   pub known : AreMarked sets' now
   pub whole : map (hidden_by (hides_of sets added)) (all_marked_of sets rest) ++ all_marked_of sets' now
-    ≡ map (hidden_by (hides_of sets added)) (all_marked_of sets list) ++ all_marked_of sets old
+      ≡ map (hidden_by (hides_of sets added)) (all_marked_of sets list) ++ all_marked_of sets old
 
 pub putting-start : (sets : Sets) (added : ℕ) (list rest old now : List Marked) → AreMarked sets list → AreMarked sets old → rest ≡ list → now ≡ old → Putting sets sets added list old rest now
 putting-start sets added list rest old now l o e n = record {
@@ -27,7 +27,7 @@ putting-start sets added list rest old now l o e n = record {
   rest_known = subst (AreMarked sets) (sym e) l;
   known = subst (AreMarked sets) (sym n) o;
   whole = ap (λ (x : List Marked). map (hidden_by (hides_of sets added)) (all_marked_of sets x) ++ all_marked_of sets now) e
-    ∙ ap (λ (x : List Marked). map (hidden_by (hides_of sets added)) (all_marked_of sets list) ++ all_marked_of sets x) n;
+      ∙ ap (λ (x : List Marked). map (hidden_by (hides_of sets added)) (all_marked_of sets list) ++ all_marked_of sets x) n;
 }
 
 hidden-push : (sets : Sets) (added : ℕ) (rest : List Marked) (m : Marked) →
@@ -58,12 +58,12 @@ putting-next sets sets' sets'' added set list old rest rest' now now' m e n a ma
       rest_known = split.0;
       known = subst (AreMarked sets'') (sym n) (All-cons (IsMarked sets'') (record m { hides = set }) now made.is_set (AreMarked-Extends sets' sets'' now made.extended p.known));
       whole = ap (λ (x : List Marked). map (hidden_by hides) (all_marked_of sets rest') ++ all_marked_of sets'' x) n
-        ∙ ap (λ (x : spec.Marked). map (hidden_by hides) (all_marked_of sets rest') ++ x ∷ all_marked_of sets'' now) (hidden-made sets sets' sets'' added set m p.extended a split.1 made)
-        ∙ ap (λ (x : List spec.Marked). map (hidden_by hides) (all_marked_of sets rest') ++ hidden_by hides (marked_of sets m) ∷ x) (all_marked_of-Extends sets' sets'' now made.extended p.known)
-        ∙ sym (append_assoc (map (hidden_by hides) (all_marked_of sets rest')) (hidden_by hides (marked_of sets m) ∷ []) (all_marked_of sets' now))
-        ∙ ap (λ (x : List spec.Marked). x ++ all_marked_of sets' now) (sym (hidden-push sets added rest' m))
-        ∙ ap (λ (x : List Marked). map (hidden_by hides) (all_marked_of sets x) ++ all_marked_of sets' now) (sym e)
-        ∙ p.whole;
+          ∙ ap (λ (x : spec.Marked). map (hidden_by hides) (all_marked_of sets rest') ++ x ∷ all_marked_of sets'' now) (hidden-made sets sets' sets'' added set m p.extended a split.1 made)
+          ∙ ap (λ (x : List spec.Marked). map (hidden_by hides) (all_marked_of sets rest') ++ hidden_by hides (marked_of sets m) ∷ x) (all_marked_of-Extends sets' sets'' now made.extended p.known)
+          ∙ sym (append_assoc (map (hidden_by hides) (all_marked_of sets rest')) (hidden_by hides (marked_of sets m) ∷ []) (all_marked_of sets' now))
+          ∙ ap (λ (x : List spec.Marked). x ++ all_marked_of sets' now) (sym (hidden-push sets added rest' m))
+          ∙ ap (λ (x : List Marked). map (hidden_by hides) (all_marked_of sets x) ++ all_marked_of sets' now) (sym e)
+          ∙ p.whole;
     }
 
 pub putting-end : (sets sets' : Sets) (added : ℕ) (list old rest now : List Marked) → rest ≡ [] → Putting sets sets' added list old rest now → PutsBefore sets sets' (hides_of sets added) list old now

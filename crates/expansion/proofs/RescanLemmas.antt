@@ -71,10 +71,10 @@ rescan-goes e m added given list todo sets cost valid h short is x p =
       };
       less = omega arith;
       same = continued-grown e m sets (expands e (all_marked_of sets todo) cost m.counter) x valid
-        ∙ ap (continued e m) (ap (λ (ms : List spec.Marked). expands e ms cost m.counter) p.meant
+          ∙ ap (continued e m) (ap (λ (ms : List spec.Marked). expands e ms cost m.counter) p.meant
           ∙ ap (λ (k : ℕ). expands e (map (hidden_by (hides_of m.sets added)) (all_marked_of m.sets list) ++ all_marked_of m.sets m.todo) k m.counter) costs
           ∙ sym (paid-within (m.cost + 1 + length (all_marked_of m.sets list)) _ (omega (arith, valid.cost))))
-        ∙ ap (λ (o : Option (List Marked)). continued e m (rescanned (expands e) e (hides_of m.sets added) (all_marked_of m.sets m.todo) m.cost m.counter (option_map (all_marked_of m.sets) o))) (sym h);
+          ∙ ap (λ (o : Option (List Marked)). continued e m (rescanned (expands e) e (hides_of m.sets added) (all_marked_of m.sets m.todo) m.cost m.counter (option_map (all_marked_of m.sets) o))) (sym h);
     }
   where
     size : (list old new : List Marked) (added : List ℕ → Bool) (sets sets' : Sets) → PutsBefore sets sets' added list old new → length new ≡ length list + length old

@@ -44,14 +44,14 @@ pub start-means : (e : expansion.Scope) (m : Machine) (toks : List Tok) → m.se
     answer_of (ran_of e m) ≡ expansion.expand e.defs e.site e.mode toks
 start-means e m toks s t o c k n =
     ap answer_of (
-      ap (λ (ps : List Pending). all_resumed e (map (pending_of m.sets) ps) (outs (all_marked_of m.sets m.out.items) (expands e (all_marked_of m.sets m.todo) m.cost m.counter))) c
-      ∙ ap (λ (ms : List Marked). outs (all_marked_of m.sets ms) (expands e (all_marked_of m.sets m.todo) m.cost m.counter)) o
-      ∙ outs-nil (expands e (all_marked_of m.sets m.todo) m.cost m.counter)
-      ∙ ap (λ (ms : List Marked). expands e (all_marked_of m.sets ms) m.cost m.counter) t
-      ∙ ap (λ (x : Sets). expands e (all_marked_of x (map unhidden toks)) m.cost m.counter) s
-      ∙ ap (λ (ms : List spec.Marked). expands e ms m.cost m.counter) (marks toks)
-      ∙ ap (λ (c : ℕ). expands e (map (λ t. record { tok = t; hides = spec.no_name }) toks) c m.counter) k
-      ∙ ap (expands e (map (λ t. record { tok = t; hides = spec.no_name }) toks) 0) n)
+    ap (λ (ps : List Pending). all_resumed e (map (pending_of m.sets) ps) (outs (all_marked_of m.sets m.out.items) (expands e (all_marked_of m.sets m.todo) m.cost m.counter))) c
+    ∙ ap (λ (ms : List Marked). outs (all_marked_of m.sets ms) (expands e (all_marked_of m.sets m.todo) m.cost m.counter)) o
+    ∙ outs-nil (expands e (all_marked_of m.sets m.todo) m.cost m.counter)
+    ∙ ap (λ (ms : List Marked). expands e (all_marked_of m.sets ms) m.cost m.counter) t
+    ∙ ap (λ (x : Sets). expands e (all_marked_of x (map unhidden toks)) m.cost m.counter) s
+    ∙ ap (λ (ms : List spec.Marked). expands e ms m.cost m.counter) (marks toks)
+    ∙ ap (λ (c : ℕ). expands e (map (λ t. record { tok = t; hides = spec.no_name }) toks) c m.counter) k
+    ∙ ap (expands e (map (λ t. record { tok = t; hides = spec.no_name }) toks) 0) n)
     ∙ sym (expands_list e.defs e.site e.mode toks)
 
 pub ends : (e : expansion.Scope) (ran : expansion.Ran) (most : ℕ) (m : Machine) (turn : Turn) (answer : Expanded) → turn ≡ Ends answer → Turns e ran most m turn → answer ≡ answer_of ran

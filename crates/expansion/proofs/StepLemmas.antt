@@ -49,7 +49,7 @@ pub gives-as : (result : Result Turn NoMemory) (e : expansion.Scope) (m m' : Mac
 gives-as result e m m' name which b kind text text' w t same h =
     turns-at result e (λ e. continued e m (built_in_out (expands e) e kind text (marked_of m.sets name) (all_marked_of m.sets m.todo) m.cost m.counter)) _ (weight m + 1) (weight m + 1) m'
     (ap (λ (t : List ℕ). continued e m (built_in_out (expands e) e kind t (marked_of m.sets name) (all_marked_of m.sets m.todo) m.cost m.counter)) t
-      ∙ ap (continued e m) (same ∙ ap (λ (b : BuiltIn). built_in (expands e) e b (marked_of m.sets name) (all_marked_of m.sets m.todo) m.cost m.counter) (sym w)))
+    ∙ ap (continued e m) (same ∙ ap (λ (b : BuiltIn). built_in (expands e) e b (marked_of m.sets name) (all_marked_of m.sets m.todo) m.cost m.counter) (sym w)))
     (omega arith) h
 
 -- ## The first token
@@ -58,7 +58,10 @@ module _ (e : expansion.Scope) (m : Machine) (token : Marked) (todo : List Marke
   pub IsMachine-taken : IsMachine m → IsMachine (record m { todo = todo })
   IsMachine-taken h = record {
     todo = All-tail (IsMarked m.sets) token todo (All-same (IsMarked m.sets) (token ∷ todo) m.todo (sym taken) h.todo);
-    out = h.out; calls = h.calls; cost = h.cost; counter = h.counter;
+    out = h.out;
+    calls = h.calls;
+    cost = h.cost;
+    counter = h.counter;
   }
 
   pub IsMarked-taken : IsMachine m → IsMarked m.sets token

@@ -11,7 +11,6 @@ use crate::copies::copy_list;
 use crate::cuts::{flagged, written_args};
 use crate::machine::{Call, Machine, Pending, Turn};
 use crate::parens::{Parens, take_parens};
-
 use crate::todo::Todo;
 use scan_model::{Expanded, FunctionDef, Items, NoMemory, Tok};
 use std::alloc::Global;
@@ -111,9 +110,17 @@ impl<'a> Machine<'a> {
         } = call;
         self.out = before;
         self.todo = rest;
-        let list = substitute_function(self.alloc, &mut self.sets, definition, args.as_slice(), &name.tok)?;
+        let list = substitute_function(
+            self.alloc,
+            &mut self.sets,
+            definition,
+            args.as_slice(),
+            &name.tok,
+        )?;
         let common = self.sets.common(name.hides, close)?;
-        let added = self.sets.also(self.alloc, common, name.tok.text.as_slice())?;
+        let added = self
+            .sets
+            .also(self.alloc, common, name.tok.text.as_slice())?;
         self.rescan(list, added)
     }
 }

@@ -8,7 +8,6 @@ ghost use Rattle.substitution.specs.Calls.{object_call};
 ghost use Rattle.expansion.specs.States.{IsMachine, Turns, continued, weight};
 
 use crate::machine::{Machine, Turn};
-
 use scan_model::{NoMemory, Tok};
 use substitution::{Marked, substitute_object};
 
@@ -20,7 +19,9 @@ impl<'a> Machine<'a> {
         ensures { IfOk result (λ turn. (e : expansion.Scope) → Turns e (continued e self.old (rescanned (expands e) e (also name.tok.text (marked_of self.old.sets name).hides) (all_marked_of self.old.sets self.old.todo) self.old.cost self.old.counter (subst (object_call name.tok.line) name.tok.space body.now))) (weight self.old) self.new turn) }
     {
         let list = substitute_object(self.alloc, &mut self.sets, body, &name.tok)?;
-        let added = self.sets.also(self.alloc, name.hides, name.tok.text.as_slice())?;
+        let added = self
+            .sets
+            .also(self.alloc, name.hides, name.tok.text.as_slice())?;
         self.rescan(list, added)
     }
 }

@@ -55,11 +55,16 @@ returns c =
     let rest : length c.replace-rest.result ≡ length c.take_parens.new.todo = ap length c.replace-rest.ensures.value in
     let few : AreFew c.in-Some.field-0.inside.items (Some c.in-Some-2.args) = subst (AreFew c.in-Some.field-0.inside.items) c.in-Some-2.is c.in_ok-args.ensures.size in
     let call : Call = record {
-      definition = c.args.definition; name = c.args.name; close = c.in-Some.field-0.close.hides; args = c.new-3.result;
-      further = c.in_ok-further.further; before = c.replace-before.result; rest = c.replace-rest.result;
+      definition = c.args.definition;
+      name = c.args.name;
+      close = c.in-Some.field-0.close.hides;
+      args = c.new-3.result;
+      further = c.in_ok-further.further;
+      before = c.replace-before.result;
+      rest = c.replace-rest.result;
     } in
     let less : weight_of_call call + weight_beside m ≤ weight m + 1 = omega (arith, parts_size, rest, few, c.in_ok-further.ensures.size) in
     turns-along c.next_arg.result _ _ _ _ _
     (λ e. call-begins e m c.args.definition.now c.take_parens.new.todo c.in-Some.field-0 c.in-Some-2.args.items call closed (sym some ∙ c.in_ok-args.ensures.value m.sets) (c.in_ok-further.ensures.value m.sets)
-      refl refl c.new-3.ensures.items (ap (λ (v : Vec Marked Global). v.items) c.replace-before.ensures.value) c.replace-rest.ensures.value)
+    refl refl c.new-3.ensures.items (ap (λ (v : Vec Marked Global). v.items) c.replace-before.ensures.value) c.replace-rest.ensures.value)
     less c.next_arg.ensures

@@ -25,8 +25,8 @@ returns c =
     let given = GivesList-grown _ _ _ _ later c.in_ok-list.ensures.value in
     turns-along c.rescan.result _ _ _ _ _
     (λ e. rescanned-grown e (record m { todo = call.rest; out = call.before }) c.also.new.self _ _ _ _ (Extends-on _ _ _ c.substitute_function.ensures.extended later)
-      (IsMachine-at m call c.requires.valid c.requires.call)
-      (common-added _ _ _ _ call.name call.close _ _ _ c.substitute_function.ensures.extended c.requires.call.name c.requires.call.close c.in_ok-common.ensures.ok c.in_ok-added.ensures.ok c.as_slice-2.ensures)
-      (given.meant ∙ ap (λ (args : List Arg). subst (function_call m.sets call.definition.now args call.name.tok.line) call.name.tok.space call.definition.now.body) c.as_slice.ensures.value)
-      ∙ call_ran-done e m call)
+    (IsMachine-at m call c.requires.valid c.requires.call)
+    (common-added _ _ _ _ call.name call.close _ _ _ c.substitute_function.ensures.extended c.requires.call.name c.requires.call.close c.in_ok-common.ensures.ok c.in_ok-added.ensures.ok c.as_slice-2.ensures)
+    (given.meant ∙ ap (λ (args : List Arg). subst (function_call m.sets call.definition.now args call.name.tok.line) call.name.tok.space call.definition.now.body) c.as_slice.ensures.value)
+    ∙ call_ran-done e m call)
     (omega arith) c.rescan.ensures

@@ -21,7 +21,7 @@ returns-then-next c =
     let popped = weight_of_call-popped s.sets c.further.call c.pop_front.new.self c.in-Some.next c.in-Some.ensures.items in
     turns-along c.begin.result _ _ _ _ _
     (λ e. ap (around e s) (sym (popped-replaced s.sets c.further.call c.pop_front.new.self c.in-Some.next c.in-Some.ensures.items c.if-next.true e s.cost s.counter) ∙ c.further.invariant.same e)
-      ∙ ap (λ (m : Machine). around e m (ran_of_call e m.sets c.args.call m.cost m.counter)) c.further.invariant.machine)
+    ∙ ap (λ (m : Machine). around e m (ran_of_call e m.sets c.args.call m.cost m.counter)) c.further.invariant.machine)
     (omega (arith, same_weight, popped, c.further.invariant.less)) c.begin.ensures
 
 pub further-preserved : goal.further-preserved
@@ -33,11 +33,15 @@ further-preserved c =
     record {
       machine = c.further.invariant.machine;
       valid = IsCall-added s.sets now c.in_ok-call.call c.in-Some.next.list _ c.in_ok-call.ensures (IsCall-popped s.sets c.further.call c.pop_front.new.self c.in-Some.next items c.further.invariant.valid)
-        (record { written = known; replaced = known });
+          (record { written = known; replaced = known });
       same = λ e. ran_of_call-added s.sets now c.in_ok-call.call c.in-Some.next.list _ c.in_ok-call.ensures e s.cost s.counter
-        ∙ sym (popped-kept s.sets c.further.call c.pop_front.new.self c.in-Some.next items c.if-next.false e s.cost s.counter) ∙ c.further.invariant.same e;
-      less = omega (arith, weight_of_call-added s.sets now c.in_ok-call.call c.in-Some.next.list _ c.in_ok-call.ensures,
-        weight_of_call-popped s.sets c.further.call c.pop_front.new.self c.in-Some.next items, c.further.invariant.less);
+          ∙ sym (popped-kept s.sets c.further.call c.pop_front.new.self c.in-Some.next items c.if-next.false e s.cost s.counter) ∙ c.further.invariant.same e;
+      less = omega (
+        arith,
+        weight_of_call-added s.sets now c.in_ok-call.call c.in-Some.next.list _ c.in_ok-call.ensures,
+        weight_of_call-popped s.sets c.further.call c.pop_front.new.self c.in-Some.next items,
+        c.further.invariant.less,
+      );
     }
 
 pub finish-requires-clause-valid : goal.finish-requires-clause-valid
@@ -49,8 +53,8 @@ returns c =
     let none : c.further.call.further.items ≡ [] = nil_from_length _ (omega (arith, c.in_default.ensures.cases, c.further.call.further.ok.0)) in
     let same_weight : weight_beside s ≡ weight_beside c.args.self.now = ap weight_beside c.further.invariant.machine in
     let same_call : weight_of_call c.further.call ≡ length c.further.call.rest + sum_by weight_of_written c.pop_front.new.self.items =
-        ap (λ (ws : List Written). length c.further.call.rest + sum_by weight_of_written ws) c.in_default.ensures.items in
+    ap (λ (ws : List Written). length c.further.call.rest + sum_by weight_of_written ws) c.in_default.ensures.items in
     turns-along c.finish.result _ _ _ _ _
     (λ e. ap (around e s) (sym (ran_of_call-none e s.sets c.further.call s.cost s.counter none) ∙ c.further.invariant.same e)
-      ∙ ap (λ (m : Machine). around e m (ran_of_call e m.sets c.args.call m.cost m.counter)) c.further.invariant.machine)
+    ∙ ap (λ (m : Machine). around e m (ran_of_call e m.sets c.args.call m.cost m.counter)) c.further.invariant.machine)
     (omega (arith, same_weight, same_call, c.further.invariant.less)) c.finish.ensures

@@ -16,5 +16,5 @@ returns c =
     let given = GivesList-grown _ _ _ _ made.extended c.in_ok-list.ensures.value in
     turns-along c.rescan.result _ _ _ _ _
     (λ e. rescanned-grown e c.args.self.now c.also.new.self _ _ _ _ (Extends-on _ _ _ first made.extended) c.requires.valid
-      (made.meant ∙ ap (λ (t : List ℕ). also t (hides_of c.substitute_object.new.sets c.args.name.hides)) c.as_slice.ensures ∙ ap (also c.args.name.tok.text) (hides_of-Extends _ _ c.args.name.hides first c.requires.name)) given.meant)
+    (made.meant ∙ ap (λ (t : List ℕ). also t (hides_of c.substitute_object.new.sets c.args.name.hides)) c.as_slice.ensures ∙ ap (also c.args.name.tok.text) (hides_of-Extends _ _ c.args.name.hides first c.requires.name)) given.meant)
     (omega arith) c.rescan.ensures

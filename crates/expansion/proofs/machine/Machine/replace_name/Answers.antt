@@ -50,7 +50,7 @@ returns-in-Some-Object c =
     let m = c.args.self.now in
     turns-at c.object.result e _ _ _ _ _
     (ap (λ (body : List Tok). continued e m (by_def (expands e) e (marked_of m.sets c.args.name) (all_marked_of m.sets m.todo) m.cost m.counter (Some (DefIs.Object body)))) c.as_slice-in-Some-Object.ensures
-      ∙ found e m c.args.name c.as_slice.result.now (Some (DefIs.Object c.in-Some-Object.body)) _ (some_found c.get.result c.in-Some-Object.field-0 _ c.in-Some-Object.is c.in-Some-Object.field-0-is) c.get.ensures.value c.as_slice.ensures)
+    ∙ found e m c.args.name c.as_slice.result.now (Some (DefIs.Object c.in-Some-Object.body)) _ (some_found c.get.result c.in-Some-Object.field-0 _ c.in-Some-Object.is c.in-Some-Object.field-0-is) c.get.ensures.value c.as_slice.ensures)
     (omega arith) c.object.ensures
 
 pub returns-then-is_called : goal.returns-then-is_called
@@ -59,7 +59,7 @@ returns-then-is_called c =
     let m = c.args.self.now in
     turns-at c.call.result e _ _ _ _ _
     (ap (continued e m) (sym (choose-true (expansion.is_called (expands e) e (all_marked_of m.sets m.todo)) _ _ (called-same e m.sets m.todo ∙ sym c.is_called.ensures ∙ c.if-is_called.true)))
-      ∙ found e m c.args.name c.as_slice.result.now (Some (DefIs.Function c.in-Some-Function.definition)) _ (some_found c.get.result c.in-Some-Function.field-0 _ c.in-Some-Function.is c.in-Some-Function.field-0-is) c.get.ensures.value c.as_slice.ensures)
+    ∙ found e m c.args.name c.as_slice.result.now (Some (DefIs.Function c.in-Some-Function.definition)) _ (some_found c.get.result c.in-Some-Function.field-0 _ c.in-Some-Function.is c.in-Some-Function.field-0-is) c.get.ensures.value c.as_slice.ensures)
     (omega arith) c.call.ensures
 
 pub returns-else-is_called : goal.returns-else-is_called
@@ -68,5 +68,5 @@ returns-else-is_called c =
     let m = c.args.self.now in
     turns-at c.goes_out-else-is_called.result e _ _ _ _ _
     (ap (continued e m) (sym (choose-false (expansion.is_called (expands e) e (all_marked_of m.sets m.todo)) (expansion.call (expands e) e c.in-Some-Function.definition (marked_of m.sets c.args.name) m.cost m.counter (in_parens (λ m. m.tok) (all_marked_of m.sets m.todo))) _ (called-same e m.sets m.todo ∙ sym c.is_called.ensures ∙ c.if-is_called.false)))
-      ∙ found e m c.args.name c.as_slice.result.now (Some (DefIs.Function c.in-Some-Function.definition)) _ (some_found c.get.result c.in-Some-Function.field-0 _ c.in-Some-Function.is c.in-Some-Function.field-0-is) c.get.ensures.value c.as_slice.ensures)
+    ∙ found e m c.args.name c.as_slice.result.now (Some (DefIs.Function c.in-Some-Function.definition)) _ (some_found c.get.result c.in-Some-Function.field-0 _ c.in-Some-Function.is c.in-Some-Function.field-0-is) c.get.ensures.value c.as_slice.ensures)
     (omega arith) c.goes_out-else-is_called.ensures
