@@ -1,0 +1,10 @@
+pub mod ListLemmas
+pub mod StateLemmas
+pub mod RescanLemmas
+pub mod CallLemmas
+pub mod StepLemmas
+pub mod CutLemmas
+pub mod DefinedLemmas
+pub mod CallBegins
+pub mod StartLemmas
+pub mod FlagLemmas

@@ -1,0 +1,5 @@
+pub mod Tree
+pub mod Search
+pub mod Merging
+pub mod Growing
+pub mod Steps

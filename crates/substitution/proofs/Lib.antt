@@ -1,0 +1,11 @@
+pub mod StringLemmas
+pub mod MeaningLemmas
+pub mod JoinLemmas
+pub mod CallLemmas
+pub mod AddLemmas
+pub mod ParensLemmas
+pub mod PartLemmas
+pub mod OptionalLemmas
+pub mod ListLemmas
+pub mod SubstituteLemmas
+pub mod AloneLemmas

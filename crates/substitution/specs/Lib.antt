@@ -1,0 +1,5 @@
+pub mod Strings
+pub mod Meaning
+pub mod Joins
+pub mod Calls
+pub mod Parens

@@ -1,0 +1,54 @@
+ghost use Rattle.std.specs.Prelude.{◌≡◌, ◌<◌, ◌≤◌, ◌+◌, ◌^◌, Some, None, length, MatchOption};
+ghost use Rattle.substitution.specs.Parens.{IsEnclosed};
+ghost use Rattle.scan_model.specs.Parentheses as spec;
+
+use crate::token_tests::{is_close_paren, is_open_paren};
+use scan_model::Tok;
+
+/// What parentheses enclose, and what follows them.
+#[derive(Clone, Copy)]
+pub(crate) struct Parens<'a> {
+    pub(crate) inside: &'a [Tok],
+    pub(crate) after: &'a [Tok],
+}
+
+/// None where no parenthesis begins the list, or where it isn't closed.
+pub(crate) fn in_parens(toks: &[Tok]) -> Option<Parens<'_>>
+    ensures { MatchOption result (spec.in_parens (λ t. t) toks.now ≡ None) (IsEnclosed toks.now (spec.in_parens (λ t. t) toks.now)) }
+{
+    if toks.is_empty() || !is_open_paren(&toks[0]) {
+        return None;
+    }
+    enclosed(&toks[1..])
+}
+
+/// The same after the open parenthesis.
+fn enclosed(toks: &[Tok]) -> Option<Parens<'_>>
+    ensures { MatchOption result (spec.enclosed (λ t. t) 0 toks.now ≡ None) (IsEnclosed toks.now (spec.enclosed (λ t. t) 0 toks.now)) }
+{
+    let mut depth = 0;
+    'toks: for i in 0..toks.len() {
+        if depth == 0 && is_close_paren(&toks[i]) {
+            return Some(Parens {
+                inside: &toks[..i],
+                after: &toks[i + 1..],
+            });
+        }
+        depth = depth_after(&toks[i], depth);
+    }
+    None
+}
+
+/// How many parentheses are open after the token.
+fn depth_after(tok: &Tok, depth: usize) -> usize
+    requires { depth + 1 < 2 ^ 64 }
+    ensures { result ≡ spec.depth_after tok.now depth }
+{
+    if is_open_paren(tok) {
+        depth + 1
+    } else if is_close_paren(tok) {
+        depth.saturating_sub(1)
+    } else {
+        depth
+    }
+}

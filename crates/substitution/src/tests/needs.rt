@@ -1,0 +1,43 @@
+use super::*;
+
+/// Each row has parameters, a list and a parameter's name, and whether its argument is replaced by itself.
+fn are_replaced(alloc: Global, rows: &str) -> Result<(), Fail> {
+    for row in rows.split('\n') {
+        let Some((params, rest)) = row.split_once('/') else {
+            return Err(Fail::from("no list"));
+        };
+        let Some((body, rest)) = rest.split_once('/') else {
+            return Err(Fail::from("no name"));
+        };
+        let Some((name, want)) = rest.split_once(" => ") else {
+            return Err(Fail::from("no row"));
+        };
+        let definition = definition(alloc, params, body)?;
+        let got = is_replaced(&definition, name.as_bytes());
+        same(if got { b"yes" } else { b"no" }, want)?;
+    }
+    Ok(())
+}
+
+#[test]
+fn parameters_that_stand_alone(rt: HostRuntime) -> Result<(), Fail> {
+    are_replaced(
+        rt.alloc(),
+        "x/a|x/x => yes
+x/y/x => no
+x/#|x/x => no
+x/x|##|1/x => no
+x/1|%:%:|x/x => no
+x/x|+|x|##|1/x => yes
+x y/x| #|y/x => yes
+x y/x| #|y/y => no
+V.../#|V/V => no
+V.../f|,|##|V/V => yes
+V.../f|,|##|V|##|y/V => no
+x V.../f|,|##|x/x => no
+V.../__VA_OPT__|(|a|)/V => yes
+V.../#|__VA_OPT__|(|a|)/V => yes
+x V.../__VA_OPT__|(|x|)/x => yes
+x V.../__VA_OPT__|(|a|)/x => no",
+    )
+}
