@@ -1,5 +1,5 @@
 -- One byte of a word that is looked for at a line's front.
-use Rattle.std.proofs.Common.{◌≡◌, ℕ, suc, ◌+◌, ◌<◌, true, false, ◌==◌, List, [], ◌∷◌, refl, ap, sym, ◌∙◌, get_or, drop, length, drop-cons, add-one, Some, None}
+use Rattle.std.proofs.Common.{◌≡◌, ℕ, suc, ◌+◌, ◌<◌, false, List, [], ◌∷◌, refl, ◌∙◌, get_or, drop, length, drop-cons, add-one, Some, None}
 use Rattle.std.proofs.lemmas.Bool.{eq-eqb}
 use Rattle.scan_model.specs.Spliced.{Spot, byte_at}
 use Rattle.scan_model.specs.Tokens.{begins}

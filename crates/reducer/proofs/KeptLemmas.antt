@@ -1,9 +1,8 @@
 -- What is left of a text, by one token or one line.
-use Rattle.std.proofs.Common.{◌≡◌, ℕ, zero, suc, ◌+◌, ◌-◌, ◌<◌, ◌≤◌, Bool, true, false, cond, not, ◌&&◌, ◌||◌, ◌==◌, List, [], ◌∷◌, ◌++◌, refl, ap, sym, ◌∙◌, subst, drop, length, length-drop, arith, Option, Some, None}
+use Rattle.std.proofs.Common.{◌≡◌, ℕ, ◌≤◌, true, false, List, [], ◌∷◌, ◌++◌, refl, ap, sym, ◌∙◌, drop, length, Option, Some, None}
 use Rattle.std.specs.List.{filter}
 use Rattle.std.proofs.lemmas.List.Elements.{filter-append}
 use Rattle.scan_model.specs.declared.token.Tok.{Tok}
-use Rattle.scan_model.specs.declared.token.Line.{Line}
 use Rattle.scan_model.specs.Spliced.{Spot, line_at, spliced}
 use Rattle.scan_model.specs.Tokens.{Lexeme, after_blanks, token_at, next_token}
 use Rattle.scan_model.specs.Lines.{tok, closed, lines, lines_from, begins_directive, is_directive, kept}

@@ -1,9 +1,9 @@
 -- The numbers of a text's lines.
-use Rattle.std.proofs.Common.{◌≡◌, ℕ, zero, suc, ◌+◌, ◌<◌, ◌≤◌, Bool, true, false, cond, List, [], ◌∷◌, ◌++◌, All, refl, ap, sym, ◌∙◌, subst, drop, length, arith, Option, Some, None}
+use Rattle.std.proofs.Common.{◌≡◌, ℕ, zero, suc, ◌+◌, ◌<◌, ◌≤◌, Bool, List, [], ◌∷◌, ◌++◌, All, refl, sym, subst, drop, length, arith, Option, Some, None}
 use Rattle.std.proofs.lemmas.Bool.{cond_both}
 use Rattle.std.specs.Option.{option_map_or}
 use Rattle.std.specs.List.{filter}
-use Rattle.std.proofs.lemmas.List.Elements.{All-nil, All-head, All-tail, All-drop}
+use Rattle.std.proofs.lemmas.List.Elements.{All-nil, All-head, All-drop}
 use Rattle.scan_model.specs.declared.token.Tok.{Tok}
 use Rattle.scan_model.specs.declared.token.Line.{Line}
 use Rattle.scan_model.specs.Spliced.{Spot, line_at, spliced}
@@ -11,7 +11,7 @@ use Rattle.scan_model.specs.Tokens.{Lexeme, after_blanks, next_token}
 use Rattle.scan_model.specs.Lines.{tok, closed, lines_up_to, lines_from, lines, is_directive, kept}
 use Rattle.scan_model.proofs.BlankLemmas.{EndOf, end_after_blanks}
 use Rattle.reducer.specs.ReducedLines.{AreOrdered}
-use Rattle.reducer.proofs.SpotLemmas.{Rising, Fits, Fits-drop, spliced_fits, spliced_from_one, last_line-spliced}
+use Rattle.reducer.proofs.SpotLemmas.{Fits, Fits-drop, spliced_fits, spliced_from_one, last_line-spliced}
 use Rattle.reducer.proofs.LeftLemmas.{next_end, next_end_whole, next_some, EndsLine, next_ends_line}
 
 -- ## The line of what is left

@@ -1,5 +1,5 @@
 -- How many lines a reduced text has.
-use Rattle.std.proofs.Common.{◌≡◌, ℕ, ◌+◌, ◌<◌, ◌≤◌, List, [], ◌∷◌, length, arith}
+use Rattle.std.proofs.Common.{ℕ, ◌+◌, ◌≤◌, List, [], ◌∷◌, length, arith}
 use Rattle.scan_model.specs.declared.token.Line.{Line}
 use Rattle.reducer.specs.ReducedLines.{AreOrdered}
 

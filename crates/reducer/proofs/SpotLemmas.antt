@@ -1,5 +1,5 @@
 -- The physical lines of the bytes that show.
-use Rattle.std.proofs.Common.{◌≡◌, ℕ, zero, suc, ◌+◌, ◌-◌, ◌<◌, ◌≤◌, Bool, true, false, cond, ◌==◌, ◌&&◌, List, [], ◌∷◌, All, refl, ap, sym, ◌∙◌, inl, inr, drop, length, length-drop, slice_index, arith}
+use Rattle.std.proofs.Common.{◌≡◌, ℕ, zero, suc, ◌+◌, ◌≤◌, Bool, true, false, cond, ◌==◌, ◌&&◌, List, [], ◌∷◌, All, refl, inl, inr, drop, length, length-drop, slice_index, arith}
 use Rattle.std.proofs.lemmas.Bool.{cases_Bool, cond_both, eqb-true, or_cases, and_parts}
 use Rattle.std.proofs.lemmas.List.Elements.{All-nil, All-cons, All-head, All-tail, All-drop, All-weaker}
 use Rattle.scan_model.specs.Spliced.{Spot, at_newline, is_hidden, shown, mark_len, spliced, last_line, line_at}

@@ -1,9 +1,9 @@
 -- A line that is known to be no directive stays one, and no header name is tried on it.
-use Rattle.std.proofs.Common.{◌≡◌, Bool, true, false, not, ◌&&◌, ◌||◌, List, [], ◌∷◌, ◌++◌, refl, ap, sym, ◌∙◌}
+use Rattle.std.proofs.Common.{◌≡◌, Bool, true, false, not, ◌&&◌, ◌||◌, List, [], ◌∷◌, ◌++◌, refl}
 use Rattle.std.proofs.lemmas.Bool.{and_parts}
 use Rattle.scan_model.specs.declared.token.Tok.{Tok}
 use Rattle.scan_model.specs.Spelling.{spells, is_one_of}
-use Rattle.scan_model.specs.Tokens.{are, are_directive, wants_header}
+use Rattle.scan_model.specs.Tokens.{wants_header}
 use Rattle.scan_model.specs.declared.token.Kind.TheVariants.{Ident, Str, Header}
 use Rattle.scan_model.specs.Lines.{begins_directive, is_kind, is_module_line}
 use Rattle.reducer.specs.Directives.{may_begin, is_text}

@@ -1,11 +1,11 @@
 -- One turn of the loops over a text and over a line that may be kept.
-use Rattle.std.proofs.Common.{◌≡◌, ℕ, ◌-◌, ◌<◌, ◌≤◌, true, List, [], ◌∷◌, ◌++◌, refl, ap, sym, ◌∙◌, subst, append-nil, drop, length, arith, Option, Some, None}
+use Rattle.std.proofs.Common.{◌≡◌, ℕ, ◌<◌, ◌≤◌, true, List, [], ◌∷◌, ◌++◌, ap, sym, ◌∙◌, subst, append-nil, drop, length, arith, Option, Some, None}
 use Rattle.std.proofs.lemmas.List.{append_assoc}
 use Rattle.std.specs.List.{filter}
 use Rattle.scan_model.specs.declared.token.Tok.{Tok}
 use Rattle.scan_model.specs.declared.token.Line.{Line}
 use Rattle.scan_model.specs.Spliced.{Spot, line_at, spliced}
-use Rattle.scan_model.specs.Lines.{tok, closed, is_directive, kept}
+use Rattle.scan_model.specs.Lines.{closed, is_directive, kept}
 use Rattle.scan_model.proofs.LineLemmas.{next_takes}
 use Rattle.reducer.specs.ReducedLines.{AreReduced}
 use Rattle.reducer.specs.Directives.{is_text, kept_from, IsPassed}

@@ -1,15 +1,14 @@
 -- What the readers of a reduced text show of its lines, place by place.
-use Rattle.std.proofs.Common.{◌≡◌, ℕ, zero, suc, ◌+◌, ◌<◌, Bool, true, false, List, [], ◌∷◌, ◌++◌, length, drop, take, slice_get, add-one, Option, Some, None, All, refl, sym, ◌∙◌, ap, subst, arith}
+use Rattle.std.proofs.Common.{◌≡◌, ℕ, zero, suc, ◌+◌, ◌<◌, Bool, true, false, List, [], ◌∷◌, ◌++◌, length, drop, take, slice_get, add-one, Option, Some, None, refl, sym, ◌∙◌, ap, subst, arith}
 use Rattle.std.specs.Option.{option_map}
 use Rattle.std.specs.List.{list_any, find as first_of}
 use Rattle.std.proofs.lemmas.List.Elements.{All-nil}
 use Rattle.std.proofs.lemmas.Option.{slice_get_within, get_or_from_slice_get}
-use Rattle.scan_model.specs.declared.Tok.{Tok}
 use Rattle.scan_model.specs.declared.Line.{Line}
 use Rattle.reducer.specs.declared.LineHead.{LineHead}
 use Rattle.reducer.specs.ReducedLines.{toks_of, AreReduced}
 use Rattle.reducer.specs.Views.{head}
-use Rattle.module_lines.specs.Identifiers.{HasUtf8Name, HaveUtf8Names}
+use Rattle.module_lines.specs.Identifiers.{HaveUtf8Names}
 use Rattle.unit_scan.specs.PlainAnswer.{are_unread, is_unread, not_yet}
 
 -- ## Lists by places

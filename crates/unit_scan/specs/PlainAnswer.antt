@@ -1,6 +1,6 @@
 -- How a command's scan ends over a file map, for main files that this scanner reads so far:
 -- those whose kept lines are module and import lines without built-in names.
-use Rattle.std.specs.Prelude.{ℕ, Bool, if◌then◌else◌, List, [], ◌∷◌, map, ◌++◌, ◌&&◌, ◌||◌, drop, take, Option, Some}
+use Rattle.std.specs.Prelude.{ℕ, Bool, if◌then◌else◌, List, [], ◌∷◌, map, ◌++◌, ◌&&◌, ◌||◌, drop, take, Option}
 use Rattle.std.specs.Option.{option_map, option_map_or}
 use Rattle.std.specs.List.{find as first_of, list_any}
 use Rattle.std.specs.declared.result.Result.{Result}

@@ -1,5 +1,5 @@
 use Rattle.std.proofs.Common.{◌≡◌, ◌++◌, ◌∙◌, ap, sym, subst, append-nil, OnOk}
-use Rattle.scan_model.specs.Lines.{closed, begins_directive}
+use Rattle.scan_model.specs.Lines.{begins_directive}
 use Rattle.reducer.proofs.KeptLemmas.{dropped, kept_closed}
 use Rattle.reducer.proofs.reduction.end_line.Goals as goal
 

@@ -1,4 +1,4 @@
-use Rattle.std.proofs.Common.{◌∙◌, ap, sym, refl, arith}
+use Rattle.std.proofs.Common.{◌∙◌, ap, sym, arith}
 use Rattle.line_splice.specs.Cursor.{rest}
 use Rattle.scan_model.specs.Spliced.{line_at}
 use Rattle.reducer.proofs.PassLemmas.{line_less}

@@ -1,4 +1,4 @@
-use Rattle.std.proofs.Common.{◌≡◌, ◌≤◌, List, [], length}
+use Rattle.std.proofs.Common.{◌≡◌, ◌≤◌, [], length}
 use Rattle.line_splice.specs.Cursor.{rest}
 use Rattle.reducer.specs.Directives.{kept_from}
 use Rattle.reducer.proofs.reduction.read_line.Given as goal

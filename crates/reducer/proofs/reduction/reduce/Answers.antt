@@ -1,5 +1,4 @@
 use Rattle.std.proofs.Common.{◌∙◌}
-use Rattle.std.proofs.lemmas.Bool.{both_ways}
 use Rattle.line_splice.specs.Cursor.{rest}
 use Rattle.reducer.proofs.TurnLemmas.{whole_start, whole_end, whole_reduced}
 use Rattle.reducer.proofs.reduction.reduce.Goals as goal
