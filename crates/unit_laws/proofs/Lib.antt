@@ -3,7 +3,6 @@ pub mod KeptAnswers
 pub mod GrowthLemmas
 pub mod GrowingAnswers
 pub mod KnownAnswers
-pub mod TurnLemmas
 pub mod StreamLemmas
 pub mod Computing
 pub mod UnitForms

@@ -2,4 +2,3 @@ pub mod Reduction
 pub mod Growth
 pub mod KnownAnswers
 pub mod Streams
-pub mod Turns

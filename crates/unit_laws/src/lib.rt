@@ -8,7 +8,6 @@ mod growth;
 mod known_answers;
 mod reduction;
 mod streams;
-mod turns;
 
 pub use growth::{a_needed_path_was_looked_at_last, an_end_stays, looked_paths_grow};
 pub use known_answers::{
@@ -25,4 +24,3 @@ pub use streams::{
     keywords_stand_in_module_lines_alone, tokens_give_what_module_lines_give,
     units_read_by_tokens_alike,
 };
-pub use turns::{further_turns_change_nothing, no_expansion_lacks_turns};

@@ -1,5 +1,0 @@
-use Rattle.unit_laws.proofs.TurnLemmas.{more_turns}
-use Rattle.unit_laws.proofs.turns.further_turns_change_nothing.Goals as goal
-
-pub returns : goal.returns
-returns c = more_turns
