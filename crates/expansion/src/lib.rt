@@ -17,3 +17,6 @@ mod turns;
 
 pub use run::expand;
 pub use scan_model::{Expanded, Mode, Site};
+
+#[cfg(test)]
+mod tests;
