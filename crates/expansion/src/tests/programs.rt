@@ -140,6 +140,10 @@ defined ( A ) => 1
 defined ( A => defined (
 defined __COUNTER__ => 1
 __has_include ( A ) => __has_include ( )
+#define X
+#define E defined ( X )
+defined ( X ) + defined Y => 1 + 0
+E => 1
 __COUNTER__ => Counter",
     )
 }
