@@ -1,5 +1,5 @@
 -- Literals between quotes, byte by byte.
-use Rattle.std.proofs.Common.{◌≡◌, ℕ, ◌+◌, ◌<◌, ◌≤◌, Bool, true, false, not, cond, ◌==◌, ◌&&◌, List, refl, ap, ◌∙◌, drop, length, get_or, slice_index, Option, Some, None}
+use Rattle.std.proofs.Common.{◌≡◌, ℕ, ◌+◌, ◌<◌, ◌≤◌, Bool, true, false, not, cond, ◌==◌, ◌&&◌, List, refl, ap, sym, ◌∙◌, drop, length, get_or, slice_index, Option, Some, None}
 use Rattle.std.proofs.lemmas.Bool.{eq-eqb, ne_eqb}
 use Rattle.std.proofs.lemmas.List.{at_drop_more, at_drop_all}
 use Rattle.std.specs.Option.{option_map_or}
@@ -32,9 +32,7 @@ items_end quote escaped t i le = at_drop_all (after_items quote escaped) t i le
 -- no opening quote stands behind the prefix
 pub not_quoted : (quote n : ℕ) (s : List ℕ) → n ≡ encoding_len s → (slice_index s n == quote) ≡ false → is_quoted quote s ≡ false
 unfolding is_quoted
-not_quoted quote n s e none = let other : (slice_index s (encoding_len s) == quote) ≡ false = ap (λ k. slice_index s k == quote) (sym_ e) ∙ none in rw other refl where
-  sym_ : {a b : ℕ} → a ≡ b → b ≡ a
-  sym_ e = rw e refl
+not_quoted quote n s e none = let other : (slice_index s (encoding_len s) == quote) ≡ false = ap (λ k. slice_index s k == quote) (sym e) ∙ none in rw other refl
 
 -- one does, and what follows its closing quote is this
 pub quoted_by : (quote n : ℕ) (s : List ℕ) (after : Option (List ℕ)) → n ≡ encoding_len s → (slice_index s n == quote) ≡ true → after ≡ after_items quote false (drop (n + 1) s)

@@ -1,5 +1,6 @@
 -- Raw strings: the delimiter, and where the string closes.
 use Rattle.std.proofs.Common.{◌≡◌, ℕ, suc, ◌+◌, ◌-◌, ◌<◌, ◌≤◌, Bool, true, false, not, cond, ◌==◌, ◌&&◌, ◌||◌, List, [], ◌∷◌, ◌++◌, refl, ap, sym, ◌∙◌, inl, inr, take, drop, length, get_or, slice_index, arith, Option, Some, None, nat_eq, nat_le, nat_lt}
+use Rattle.std.proofs.Math.Bool.{and_assoc, and-true}
 use Rattle.std.proofs.lemmas.Bool.{and_left, and_right, and_from, eq-eqb, ne_eqb, cases_eq, cases_lt, lt-ltb, le-ltb, le-leb, lt-leb, or_cases, or_parts, not-true, not-false, eqb-true, eqb-false}
 use Rattle.std.proofs.lemmas.List.{at_drop_more, at_drop_all, take_more, append_assoc, append-nil, length-append, length-take-le}
 use Rattle.std.specs.Option.{option_map_or}
@@ -122,20 +123,12 @@ eq_comm a b = elim (cases_eq a b) [
   | inr ne ↦ ne_eqb a b ne ∙ sym (ne_eqb b a (λ e. ne (sym e)))
 ]
 
-and_true : (a : Bool) → (a && true) ≡ a
-and_true true = refl
-and_true false = refl
-
-and_assoc : (a b c : Bool) → (a && (b && c)) ≡ ((a && b) && c)
-and_assoc true b c = refl
-and_assoc false b c = refl
-
 -- a word and then a byte begin the text
 starts_with-push : (d t : List ℕ) (q : ℕ) → (0 == q) ≡ false → starts_with nat_eq t (d ++ q ∷ []) ≡ (starts_with nat_eq t d && slice_index t (length d) == q)
 starts_with-push [] [] q h = sym h
-starts_with-push [] (c ∷ t) q h = and_true (nat_eq q c) ∙ eq_comm q c
+starts_with-push [] (c ∷ t) q h = and-true (nat_eq q c) ∙ eq_comm q c
 starts_with-push (x ∷ d) [] q h = refl
-starts_with-push (x ∷ d) (c ∷ t) q h = ap (λ b. nat_eq x c && b) (starts_with-push d t q h) ∙ and_assoc (nat_eq x c) (starts_with nat_eq t d) (slice_index t (length d) == q)
+starts_with-push (x ∷ d) (c ∷ t) q h = ap (λ b. nat_eq x c && b) (starts_with-push d t q h) ∙ sym (and_assoc (nat_eq x c) (starts_with nat_eq t d) (slice_index t (length d) == q))
 
 -- `)`, the delimiter and `"` begin the text
 pub closes_by : (t d : List ℕ) → starts_with nat_eq t (41 ∷ d ++ 34 ∷ []) ≡ (slice_index t 0 == 41 && (starts_with nat_eq (drop 1 t) d && slice_index t (length d + 1) == 34))

@@ -1,5 +1,6 @@
 -- A whole spelling among the words of a table.
 use Rattle.std.proofs.Common.{◌≡◌, ℕ, suc, ◌≤◌, Bool, true, false, cond, ◌==◌, ◌&&◌, ◌||◌, List, [], ◌∷◌, refl, ap, sym, ◌∙◌, inl, inr, take, length, length-take, arith, Option, Some, None, is_some, nat_eq, nat_le}
+use Rattle.std.proofs.Math.Bool.{and_assoc, or-false}
 use Rattle.std.proofs.lemmas.Bool.{cases_Bool, and_left, ne_eqb, eq-eqb, cases_eq, leb-true, leb-false}
 use Rattle.std.specs.Option.{option_map, option_map_or}
 use Rattle.std.specs.List.{find, list_any, starts_with}
@@ -32,17 +33,13 @@ eq-suc a b = elim (cases_eq a b) [
   | inr ne ↦ ne_eqb (suc a) (suc b) (λ e. ne (omega arith)) ∙ sym (ne_eqb a b ne)
 ]
 
-and_assoc : (a b c : Bool) → (a && (b && c)) ≡ ((a && b) && c)
-and_assoc true b c = refl
-and_assoc false b c = refl
-
 -- a word is the whole text exactly where it begins it and is as long
 word_whole : (word s : List ℕ) → pointwise nat_eq word s ≡ (starts_with nat_eq s word && length word == length s)
 word_whole [] [] = refl
 word_whole [] (c ∷ s) = sym (ne_eqb 0 (suc (length s)) (λ e. omega arith))
 word_whole (w ∷ word) [] = refl
 word_whole (w ∷ word) (c ∷ s) =
-    ap (λ b. nat_eq w c && b) (word_whole word s) ∙ and_assoc (nat_eq w c) (starts_with nat_eq s word) (length word == length s)
+    ap (λ b. nat_eq w c && b) (word_whole word s) ∙ sym (and_assoc (nat_eq w c) (starts_with nat_eq s word) (length word == length s))
     ∙ ap (λ b. (nat_eq w c && starts_with nat_eq s word) && b) (sym (eq-suc (length word) (length s)))
 
 front_within : (word s : List ℕ) → starts_with nat_eq s word ≡ true → length word ≤ length s
@@ -61,10 +58,7 @@ row_within s (e ∷ es) = elim (cases_Bool (starts_with nat_eq s e.0)) [
 ]
 
 longer_whole : (s : List ℕ) (a : ℕ × ℕ) (later : Option (ℕ × ℕ)) → a.1 ≤ length s → IsWithin s later → is_whole s (longer (Some a) later) ≡ (a.1 == length s || is_whole s later)
-longer_whole s a None h k = or_false (a.1 == length s) where
-  or_false : (x : Bool) → x ≡ (x || false)
-  or_false true = refl
-  or_false false = refl
+longer_whole s a None h k = sym (or-false (a.1 == length s))
 longer_whole s a (Some b) h k = elim (cases_Bool (nat_le b.1 a.1)) [
   | inl t ↦ rw t (earlier a.1 b.1 (length s) h (leb-true b.1 a.1 t))
   | inr t ↦ rw t (let no : (a.1 == length s) ≡ false = ne_eqb a.1 (length s) (λ e. omega (arith, leb-false b.1 a.1 t)) in rw no refl)
@@ -72,11 +66,8 @@ longer_whole s a (Some b) h k = elim (cases_Bool (nat_le b.1 a.1)) [
   earlier : (a b n : ℕ) → a ≤ n → b ≤ a → (a == n) ≡ (a == n || b == n)
   earlier a b n h k = elim (cases_eq a n) [
     | inl e ↦ let yes : (a == n) ≡ true = eq-eqb a n e in rw yes refl
-    | inr ne ↦ let no : (b == n) ≡ false = ne_eqb b n (λ e. ne (omega arith)) in rw no (or_false (a == n))
-  ] where
-    or_false : (x : Bool) → x ≡ (x || false)
-    or_false true = refl
-    or_false false = refl
+    | inr ne ↦ let no : (b == n) ≡ false = ne_eqb b n (λ e. ne (omega arith)) in rw no (sym (or-false (a == n)))
+  ]
 
 longest_whole : (s : List ℕ) (es : List Entry) → is_whole s (longest_row s es) ≡ list_any (has_word s) es
 longest_whole s [] = refl
