@@ -3,11 +3,11 @@ use super::*;
 /// Macros whose names double from one to the next.
 fn doubled(alloc: Global) -> Result<Macros, Fail> {
     let mut macros = Macros::new(alloc)?;
-    define(alloc, &mut macros, "T0 0")?;
+    define(alloc, &mut macros, "P0 0")?;
     define(alloc, &mut macros, "N")?;
     for k in 1..18u32 {
         let j = k - 1;
-        let words = format!(in alloc; "T{k} T{j} + T{j}")?;
+        let words = format!(in alloc; "P{k} P{j} + P{j}")?;
         define(alloc, &mut macros, words.as_str())?;
     }
     Ok(macros)
@@ -24,11 +24,11 @@ fn is_done(alloc: Global, macros: &Macros, words: &str) -> Result<bool, Fail> {
 fn a_cost_of_the_limit_is_paid(rt: HostRuntime) -> Result<(), Fail> {
     let alloc = rt.alloc();
     let macros = doubled(alloc)?;
-    let words = "T17 + T15 + T13 + T11 + T9 + T7 + T5 + T3 + T3 + T0 + T0 == 0";
+    let words = "P17 + P15 + P13 + P11 + P9 + P7 + P5 + P3 + P3 + P0 + P0 == 0";
     if !is_done(alloc, &macros, words)? {
         return Err(Fail::from("too long"));
     }
-    let words = "T17 + T15 + T13 + T11 + T9 + T7 + T5 + T3 + T3 + T0 + T0 == 0 N";
+    let words = "P17 + P15 + P13 + P11 + P9 + P7 + P5 + P3 + P3 + P0 + P0 == 0 N";
     if is_done(alloc, &macros, words)? {
         return Err(Fail::from("not too long"));
     }
