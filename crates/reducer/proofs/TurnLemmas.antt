@@ -1,16 +1,16 @@
 -- One turn of the loops over a text and over a line that may be kept.
-use Rattle.std.proofs.Common.{◌≡◌, ℕ, ◌<◌, ◌≤◌, true, List, [], ◌∷◌, ◌++◌, ap, sym, ◌∙◌, subst, append-nil, drop, length, arith, Option, Some, None}
+use Rattle.std.proofs.Common.{◌≡◌, ℕ, ◌<◌, ◌≤◌, true, List, [], ◌∷◌, ◌++◌, refl, ap, sym, ◌∙◌, subst, append-nil, drop, length, arith, Option, Some, None}
 use Rattle.std.proofs.lemmas.List.{append_assoc}
 use Rattle.std.specs.List.{filter}
 use Rattle.scan_model.specs.declared.token.Tok.{Tok}
 use Rattle.scan_model.specs.declared.token.Line.{Line}
-use Rattle.scan_model.specs.Spliced.{Spot, line_at, spliced}
+use Rattle.scan_model.specs.Spliced.{Spot, byte_at, line_at, spliced}
 use Rattle.scan_model.specs.Lines.{closed, is_directive, kept}
 use Rattle.scan_model.proofs.LineLemmas.{next_takes}
 use Rattle.reducer.specs.ReducedLines.{AreReduced}
 use Rattle.reducer.specs.Directives.{is_text, kept_from, IsPassed}
 use Rattle.pp_lexer.specs.Reads.{GivesToken}
-use Rattle.reducer.proofs.KeptLemmas.{kept_from-token, kept_from-newline, kept_from-end, kept_from-start, reduced_kept}
+use Rattle.reducer.proofs.KeptLemmas.{kept_from-token, kept_from-newline, kept_from-empty, kept_from-end, kept_from-start, reduced_kept}
 
 -- the clause of `token`, by the names of the loop
 pub as_given : (text : List ℕ) (before before' : List Tok) (s left : List Spot) (o o' : Option Tok) → GivesToken text before s o left → before ≡ before' → o ≡ o' → GivesToken text before' s o' left
@@ -43,6 +43,14 @@ dropped_turn text text' lines toks before start left at same so_far passed is te
 
 pub whole_start : (text : List ℕ) (lines : List Line) (s : List Spot) → lines ≡ [] → s ≡ spliced text → lines ++ kept_from text [] s ≡ kept text
 whole_start text lines s none start = ap (λ u. u ++ kept_from text [] s) none ∙ ap (kept_from text []) start ∙ kept_from-start text
+
+-- after an empty line
+pub empty_turn : (text : List ℕ) (lines : List Line) (s at : List Spot) → byte_at s ≡ Some 10 → at ≡ drop 1 s → lines ++ kept_from text [] at ≡ lines ++ kept_from text [] s
+empty_turn text lines s at here next = ap (λ u. lines ++ u) (ap (kept_from text []) next ∙ sym (kept_from-empty text s here))
+
+pub at_end : (s : List Spot) → byte_at s ≡ None → s ≡ []
+at_end [] h = refl
+at_end (x ∷ s) h = cc
 
 pub whole_end : (text : List ℕ) (lines : List Line) (s : List Spot) → lines ++ kept_from text [] s ≡ kept text → s ≡ [] → lines ≡ kept text
 whole_end text lines s whole none = sym (append-nil lines) ∙ ap (λ u. lines ++ u) (sym (ap (kept_from text []) none ∙ kept_from-end text)) ∙ whole

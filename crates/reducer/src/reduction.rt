@@ -140,7 +140,12 @@ pub fn reduce(alloc: Global, text: &[u8]) -> Result<Reduced, NoMemory>
 {
     let mut at = Cursor::new(text);
     let mut lines = Vec::new(alloc);
-    'lines: while !at.is_end() {
+    'lines: while let Some(byte) = at.peek() {
+        // Many lines are empty: their newline is passed at once.
+        if byte == b'\n' {
+            at.advance();
+            continue;
+        }
         reduce_line(alloc, text, &mut at, &mut lines)?;
     }
     Ok(Reduced::of_lines(lines))
