@@ -9,3 +9,4 @@ pub mod OptionalLemmas
 pub mod ListLemmas
 pub mod SubstituteLemmas
 pub mod AloneLemmas
+pub mod OperandLemmas
