@@ -40,8 +40,8 @@ pub record WantedHeader (at : Cursor) (before : List Tok) (new : List Spot) : Ty
   pub test : (wants_header before && nat_lt 0 (longest is_header (line (rest at)))) ≡ true
   pub left : new ≡ drop (longest is_header (line (rest at))) (rest at)
 
-pub header_ahead : (at : Cursor) (before : List Tok) (new : List Spot) → WantedHeader at before new → IsAhead (rest at) new
-header_ahead at before new w = (line_ahead at (longest is_header (line (rest at))) new w.some (longest_le is_header (line (rest at))) w.left).0
+pub header_ahead : (at : Cursor) (new : List Spot) → 0 < length (line (rest at)) → new ≡ drop (longest is_header (line (rest at))) (rest at) → IsAhead (rest at) new
+header_ahead at new some left = (line_ahead at (longest is_header (line (rest at))) new some (longest_le is_header (line (rest at))) left).0
 
 pub header_given : (text : List ℕ) (at : Cursor) (before : List Tok) (new : List Spot) → WantedHeader at before new → GivesShown (lexeme text before (rest at)) Header (rest at) new
 header_given text at before new w =

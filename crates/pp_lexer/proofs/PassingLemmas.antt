@@ -8,7 +8,7 @@ use Rattle.scan_model.specs.Tokens.{Lexeme, after_blanks, wants_header, lexeme, 
 use Rattle.pp_lexer.specs.Reads.{PassesToken}
 use Rattle.pp_lexer.proofs.TokenLemmas.{token_some, token_none}
 
-wants_header-nil : wants_header [] ≡ false
+pub wants_header-nil : wants_header [] ≡ false
 unfolding wants_header
 wants_header-nil = refl
 

@@ -1,19 +1,19 @@
-ghost use Rattle.std.specs.Prelude.{◌≡◌, ◌<◌, ◌&&◌, nat_lt, length, drop, IsTrue, IsFalse};
+ghost use Rattle.std.specs.Prelude.{◌≡◌, ◌<◌, ◌&&◌, nat_lt, List, length, drop, IsTrue, IsFalse};
 ghost use Rattle.line_splice.specs.Cursor.{text_of, rest};
 ghost use Rattle.lexeme_reader.specs.Fronts.{line};
 ghost use Rattle.lexeme_reader.specs.Quotes.{quote_byte, other_quote};
+ghost use Rattle.scan_model.specs.declared.token.Tok.{Tok};
 ghost use Rattle.scan_model.specs.Spelling.{is_header, opens, opens_raw, longest};
 ghost use Rattle.scan_model.specs.Tokens.{wants_header, raw_lexeme, lexeme};
 ghost use Rattle.pp_lexer.specs.Reads.{GivesShown, IsAhead, not_raw};
 ghost use Rattle.pp_lexer.specs.Lexemes.{literal_kind, is_raw, quote_of, IsQuoteAt, IsSpelled, GivesLexeme};
 
-use crate::header_names::wants_header;
 use crate::unquoted::pass_unquoted;
 use lexeme_reader::{
     Opening, Quote, RawParts, RawSpelling, literal_at, pass_header, pass_quoted, pass_raw,
 };
 use line_splice::Cursor;
-use scan_model::{Kind, Tok};
+use scan_model::Kind;
 
 /// How a token that a cursor has passed is spelled.
 #[derive(Clone, Copy)]
@@ -41,18 +41,14 @@ fn shown<'a>(kind: Kind) -> Found<'a>
     }
 }
 
-// Passes the header name that stands here, where one is tried after these tokens.
-fn pass_wanted_header(at: &mut Cursor<'_>, before: &[Tok]) -> bool
+// Passes the header name that stands here, where one is tried.
+fn pass_wanted_header(at: &mut Cursor<'_>, wants: bool) -> bool
     ensures text { text_of at.new ≡ text_of at.old }
-    ensures value { result ≡ (wants_header before.now && nat_lt 0 (longest is_header (line (rest at.old)))) }
+    ensures value { result ≡ (wants && nat_lt 0 (longest is_header (line (rest at.old)))) }
     ensures header { IsTrue result → rest at.new ≡ drop (longest is_header (line (rest at.old))) (rest at.old) }
     ensures none { IsFalse result → rest at.new ≡ rest at.old }
 {
-    if wants_header(before) {
-        pass_header(at)
-    } else {
-        false
-    }
+    if wants { pass_header(at) } else { false }
 }
 
 fn literal_kind(quote: Quote, closed: bool) -> Kind
@@ -129,14 +125,16 @@ fn pass_raw_string<'a>(at: &mut Cursor<'a>) -> Found<'a>
     }
 }
 
-/// Passes the token that stands here, after these tokens of its line ([lex.pptoken]). No memory is taken.
-pub fn pass_lexeme<'a>(at: &mut Cursor<'a>, before: &[Tok]) -> Found<'a>
+/// Passes the token that stands here after tokens that want a header name next, or don't ([lex.pptoken]). No memory is
+/// taken.
+pub fn pass_lexeme<'a>(at: &mut Cursor<'a>, wants: bool) -> Found<'a>
     requires { 0 < length (line (rest at.old)) }
     ensures text { text_of at.new ≡ text_of at.old }
     ensures spelling { IsSpelled (text_of at.old) result (rest at.old) (rest at.new) }
-    ensures lexeme { GivesLexeme (text_of at.old) (lexeme (text_of at.old) before.now (rest at.old)) result (rest at.old) (rest at.new) }
+    ensures lexeme { (before : List Tok) → wants_header before ≡ wants
+        → GivesLexeme (text_of at.old) (lexeme (text_of at.old) before (rest at.old)) result (rest at.old) (rest at.new) }
 {
-    if pass_wanted_header(at, before) {
+    if pass_wanted_header(at, wants) {
         return shown(Kind::Header);
     }
     let opening = literal_at(at);

@@ -17,8 +17,9 @@ pub use blanks::pass_blanks;
 pub use lexeme::{Found, Spelling, pass_lexeme};
 pub use logical_lines::lines;
 pub use passing::pass_token;
+pub use spelled::push_spelling;
 pub use token_spelling::paste;
-pub use tokens::token;
+pub use tokens::{is_on_line, token};
 
 #[cfg(test)]
 mod tests;

@@ -18,6 +18,6 @@ pub fn pass_token(at: &mut Cursor<'_>) -> bool
     if !is_on_line(at) {
         return false;
     }
-    pass_lexeme(at, &[]);
+    pass_lexeme(at, false);
     true
 }

@@ -75,6 +75,25 @@ fn push_raw(
     push_passed(out, &parts.suffix, to)
 }
 
+/// Adds the spelling of the token that was found between the two cursors over the text. `Err` is want of memory.
+pub fn push_spelling(
+    out: &mut Vec<u8>,
+    text: &[u8],
+    from: &Cursor<'_>,
+    found: Found<'_>,
+    to: &Cursor<'_>,
+) -> Result<(), NoMemory>
+    requires from { text_of from.now ≡ text.now }
+    requires to { text_of to.now ≡ text.now }
+    requires spelling { IsSpelled text.now found (rest from.now) (rest to.now) }
+    ensures { OnOk result (out.new.items ≡ out.old.items ++ spelling_of text.now found.entry.spelling (rest from.now) (rest to.now)) }
+{
+    match found.spelling {
+        Spelling::Shown => push_shown(out, text, from, to),
+        Spelling::Raw(parts) => push_raw(out, text, from, parts, to),
+    }
+}
+
 // The spelling of the token that was found between the two cursors over the text.
 pub fn spelled(
     alloc: Global,
@@ -89,9 +108,6 @@ pub fn spelled(
     ensures { IfOk result (λ v. v.items ≡ spelling_of text.now found.entry.spelling (rest from.now) (rest to.now)) }
 {
     let mut out = Vec::new(alloc);
-    match found.spelling {
-        Spelling::Shown => push_shown(&mut out, text, from, to)?,
-        Spelling::Raw(parts) => push_raw(&mut out, text, from, parts, to)?,
-    }
+    push_spelling(&mut out, text, from, found, to)?;
     Ok(out)
 }

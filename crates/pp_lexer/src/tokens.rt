@@ -4,6 +4,7 @@ ghost use Rattle.lexeme_reader.specs.Fronts.{line};
 ghost use Rattle.pp_lexer.specs.Reads.{GivesToken, is_nil, line_here};
 
 use crate::blanks::pass_blanks;
+use crate::header_names::wants_header;
 use crate::lexeme::pass_lexeme;
 use crate::spelled::spelled;
 use line_splice::Cursor;
@@ -63,7 +64,7 @@ pub fn token(
     }
     let line = line_here(before, next.line());
     let from = next;
-    let found = pass_lexeme(&mut next, before);
+    let found = pass_lexeme(&mut next, wants_header(before));
     let spelling = spelled(alloc, text, &from, found, &next)?;
     *at = next;
     Ok(Some(Tok {

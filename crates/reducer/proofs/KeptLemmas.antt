@@ -3,8 +3,8 @@ use Rattle.std.proofs.Common.{◌≡◌, ℕ, ◌≤◌, true, false, List, [], 
 use Rattle.std.specs.List.{filter}
 use Rattle.std.proofs.lemmas.List.Elements.{filter-append}
 use Rattle.scan_model.specs.declared.token.Tok.{Tok}
-use Rattle.scan_model.specs.Spliced.{Spot, line_at, spliced}
-use Rattle.scan_model.specs.Tokens.{Lexeme, after_blanks, token_at, next_token}
+use Rattle.scan_model.specs.Spliced.{Spot, byte_at, line_at, spliced}
+use Rattle.scan_model.specs.Tokens.{Lexeme, next_blank, after_blanks, token_at, next_token}
 use Rattle.scan_model.specs.Lines.{tok, closed, lines, lines_from, begins_directive, is_directive, kept}
 use Rattle.scan_model.proofs.BlankLemmas.{after_blanks-none, after_blanks-stops}
 use Rattle.scan_model.proofs.LineLemmas.{lines_from-token, lines_from-newline, lines_from-end}
@@ -72,6 +72,23 @@ kept_from-blanks text s = by (next_token text [] s) refl where
       kept_from-token text [] (after_blanks s) l (same_token text [] s ∙ e) ∙ ap (λ t. kept_from text (t ∷ []) l.left) (same_tok text s l) ∙ sym (kept_from-token text [] s l e)
   by None e =
       kept_from-newline text [] (after_blanks s) (same_token text [] s ∙ e) ∙ ap (λ at. kept_from text [] (drop 1 at)) (after_blanks-twice s) ∙ sym (kept_from-newline text [] s e)
+
+-- ## An empty line
+
+no_blank : (s : List Spot) → byte_at s ≡ Some 10 → next_blank s ≡ None
+unfolding next_blank
+no_blank [] h = cc
+no_blank (x ∷ s) h = let newline : x.byte ≡ 10 = cc in rw newline refl
+
+no_token : (text : List ℕ) (s : List Spot) → byte_at s ≡ Some 10 → token_at text [] s ≡ None
+no_token text [] h = cc
+no_token text (x ∷ s) h = let newline : x.byte ≡ 10 = cc in rw newline refl
+
+pub kept_from-empty : (text : List ℕ) (s : List Spot) → byte_at s ≡ Some 10 → kept_from text [] s ≡ kept_from text [] (drop 1 s)
+unfolding next_token
+kept_from-empty text s h =
+    let here = after_blanks-none s (no_blank s h) in
+    kept_from-newline text [] s (ap (token_at text []) here ∙ no_token text s h) ∙ ap (λ at. kept_from text [] (drop 1 at)) here
 
 -- ## The whole
 

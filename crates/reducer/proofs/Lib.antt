@@ -9,3 +9,6 @@ pub mod PassLemmas
 pub mod TurnLemmas
 pub mod WordLemmas
 pub mod FrontLemmas
+pub mod FlatLemmas
+pub mod OpenLemmas
+pub mod PlaceLemmas

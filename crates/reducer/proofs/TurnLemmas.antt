@@ -1,28 +1,37 @@
 -- One turn of the loops over a text and over a line that may be kept.
-use Rattle.std.proofs.Common.{◌≡◌, ℕ, ◌<◌, ◌≤◌, true, List, [], ◌∷◌, ◌++◌, ap, sym, ◌∙◌, subst, append-nil, drop, length, arith, Option, Some, None}
+use Rattle.std.proofs.Common.{◌≡◌, ℕ, ◌<◌, ◌≤◌, Bool, true, List, [], ◌∷◌, ◌++◌, refl, ap, sym, ◌∙◌, subst, append-nil, drop, length, arith, Some, None}
 use Rattle.std.proofs.lemmas.List.{append_assoc}
 use Rattle.std.specs.List.{filter}
 use Rattle.scan_model.specs.declared.token.Tok.{Tok}
 use Rattle.scan_model.specs.declared.token.Line.{Line}
-use Rattle.scan_model.specs.Spliced.{Spot, line_at, spliced}
+use Rattle.scan_model.specs.Spliced.{Spot, byte_at, line_at, spliced}
 use Rattle.scan_model.specs.Lines.{closed, is_directive, kept}
 use Rattle.scan_model.proofs.LineLemmas.{next_takes}
 use Rattle.reducer.specs.ReducedLines.{AreReduced}
 use Rattle.reducer.specs.Directives.{is_text, kept_from, IsPassed}
 use Rattle.pp_lexer.specs.Reads.{GivesToken}
-use Rattle.reducer.proofs.KeptLemmas.{kept_from-token, kept_from-newline, kept_from-end, kept_from-start, reduced_kept}
+use Rattle.reducer.specs.declared.open_lines.OpenLines.{OpenLines}
+use Rattle.reducer.specs.Building.{open_toks}
+use Rattle.reducer.specs.ReadToken.{ReadsToken}
+use Rattle.reducer.proofs.KeptLemmas.{kept_from-token, kept_from-newline, kept_from-empty, kept_from-end, kept_from-start, reduced_kept}
 
--- the clause of `token`, by the names of the loop
-pub as_given : (text : List ℕ) (before before' : List Tok) (s left : List Spot) (o o' : Option Tok) → GivesToken text before s o left → before ≡ before' → o ≡ o' → GivesToken text before' s o' left
-as_given text before before' s left o o' h e f = subst (λ o. GivesToken text before' s o left) f (subst (λ b. GivesToken text b s o left) e h)
-
-pub token_smaller : (text : List ℕ) (before : List Tok) (s left : List Spot) (t : Tok) → GivesToken text before s (Some t) left → length left < length s
+token_smaller : (text : List ℕ) (before : List Tok) (s left : List Spot) (t : Tok) → GivesToken text before s (Some t) left → length left < length s
 token_smaller text before s left t h = let z = next_takes text before s h.0 h.1 in let e : length left ≡ length h.0.left = ap length h.3 in omega arith
 
 -- after a token
-pub token_turn : (text : List ℕ) (before toks : List Tok) (s left : List Spot) (t : Tok) → GivesToken text before s (Some t) left → toks ≡ before ++ t ∷ [] → kept_from text before s ≡ kept_from text toks left
+token_turn : (text : List ℕ) (before toks : List Tok) (s left : List Spot) (t : Tok) → GivesToken text before s (Some t) left → toks ≡ before ++ t ∷ [] → kept_from text before s ≡ kept_from text toks left
 token_turn text before toks s left t h push =
     kept_from-token text before s h.0 h.1 ∙ ap (λ u. kept_from text (before ++ u ∷ []) h.0.left) (sym h.2) ∙ ap (λ u. kept_from text u h.0.left) (sym push) ∙ ap (kept_from text toks) (sym h.3)
+
+-- the clause of `read_token`, by what its answer was found to be
+pub as_read : (text : List ℕ) (b after : OpenLines) (s left : List Spot) (read read' : Bool) → ReadsToken text b s read after left → read ≡ read' → ReadsToken text b s read' after left
+as_read text b after s left read read' h e = subst (λ r. ReadsToken text b s r after left) e h
+
+pub read_smaller : (text : List ℕ) (b after : OpenLines) (s left : List Spot) → ReadsToken text b s true after left → length left < length s
+read_smaller text b after s left h = token_smaller text (open_toks b) s left h.0 h.1
+
+pub read_turn : (text : List ℕ) (b after : OpenLines) (s left : List Spot) → ReadsToken text b s true after left → kept_from text (open_toks b) s ≡ kept_from text (open_toks after) left
+read_turn text b after s left h = token_turn text (open_toks b) (open_toks after) s left h.0 h.1 h.2.added
 
 -- after the last one
 pub line_turn : (text : List ℕ) (lines more : List Line) (before : List Tok) (start s left at : List Spot) (last : ℕ) → kept_from text [] start ≡ kept_from text before s → GivesToken text before s None left
@@ -35,14 +44,22 @@ line_turn text lines more before start s left at last so_far h line_is add next 
     ∙ append_assoc lines line (kept_from text [] (drop 1 left)) ∙ ap (λ u. lines ++ u) (sym here) ∙ ap (λ u. lines ++ u) (sym so_far)
 
 -- after a line that is dropped
-pub dropped_turn : (text text' : List ℕ) (lines : List Line) (toks before : List Tok) (start left at : List Spot) → text' ≡ text → kept_from text [] start ≡ kept_from text toks left → IsPassed text' left at
-    → before ≡ toks → is_text before ≡ true → lines ++ kept_from text [] at ≡ lines ++ kept_from text [] start
-dropped_turn text text' lines toks before start left at same so_far passed is text_is =
-    let passed' = subst (λ t. IsPassed t left at) same passed toks (ap is_text (sym is) ∙ text_is) in
+pub dropped_turn : (text text' : List ℕ) (lines : List Line) (toks : List Tok) (start left at : List Spot) → text' ≡ text → kept_from text [] start ≡ kept_from text toks left → IsPassed text' left at
+    → is_text toks ≡ true → lines ++ kept_from text [] at ≡ lines ++ kept_from text [] start
+dropped_turn text text' lines toks start left at same so_far passed is =
+    let passed' = subst (λ t. IsPassed t left at) same passed toks is in
     ap (λ u. lines ++ u) (sym passed' ∙ sym so_far)
 
 pub whole_start : (text : List ℕ) (lines : List Line) (s : List Spot) → lines ≡ [] → s ≡ spliced text → lines ++ kept_from text [] s ≡ kept text
 whole_start text lines s none start = ap (λ u. u ++ kept_from text [] s) none ∙ ap (kept_from text []) start ∙ kept_from-start text
+
+-- after an empty line
+pub empty_turn : (text : List ℕ) (lines : List Line) (s at : List Spot) → byte_at s ≡ Some 10 → at ≡ drop 1 s → lines ++ kept_from text [] at ≡ lines ++ kept_from text [] s
+empty_turn text lines s at here next = ap (λ u. lines ++ u) (ap (kept_from text []) next ∙ sym (kept_from-empty text s here))
+
+pub at_end : (s : List Spot) → byte_at s ≡ None → s ≡ []
+at_end [] h = refl
+at_end (x ∷ s) h = cc
 
 pub whole_end : (text : List ℕ) (lines : List Line) (s : List Spot) → lines ++ kept_from text [] s ≡ kept text → s ≡ [] → lines ≡ kept text
 whole_end text lines s whole none = sym (append-nil lines) ∙ ap (λ u. lines ++ u) (sym (ap (kept_from text []) none ∙ kept_from-end text)) ∙ whole

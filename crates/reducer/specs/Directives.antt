@@ -1,12 +1,38 @@
 -- What the first tokens of a line tell of it ([cpp.pre]).
-use Rattle.std.specs.Prelude.{◌≡◌, ℕ, Bool, true, false, not, ◌&&◌, ◌==◌, List, [], ◌∷◌, codes}
+use Rattle.std.specs.Prelude.{◌≡◌, ℕ, ◌-◌, Bool, true, false, not, ◌&&◌, ◌||◌, ◌==◌, List, [], ◌∷◌, take, drop, length, codes}
 use Rattle.std.specs.List.{filter, list_any}
+use Rattle.scan_model.specs.declared.token.Kind.TheVariants.{Ident, Str, Header}
 use Rattle.scan_model.specs.declared.token.Tok.{Tok}
 use Rattle.scan_model.specs.declared.token.Line.{Line}
 use Rattle.scan_model.specs.Spliced.{Spot}
 use Rattle.scan_model.specs.Spelling.{spells, is_one_of}
-use Rattle.scan_model.specs.Tokens.{begins}
-use Rattle.scan_model.specs.Lines.{begins_directive, is_directive, lines_from}
+use Rattle.scan_model.specs.Tokens.{begins, are, are_directive}
+use Rattle.reducer.specs.TokenTests.{at_tok}
+use Rattle.scan_model.specs.Lines.{is_kind, begins_directive, is_directive, lines_from}
+
+-- what makes a directive of an `import` before it: a header, a name or a partition
+abbrev pub makes_import : Tok → Bool
+makes_import t = is_kind t.kind Header || is_kind t.kind Ident || is_kind t.kind Str || is_one_of ("<" ∷ ":" ∷ []) t.text
+
+-- what makes a directive of a `module` before it: a name, a partition or the end of the statement
+abbrev pub makes_module : Tok → Bool
+makes_module t = is_kind t.kind Ident || is_one_of (":" ∷ ";" ∷ []) t.text
+
+-- `#` or `%:` is the first token
+abbrev pub begins_with_sharp : List Tok → Bool
+begins_with_sharp ts = at_tok (λ t. spells "#" t.text) ts 0 || at_tok (λ t. spells "%:" t.text) ts 0
+
+-- these tokens, and no further ones, are followed by a header name
+abbrev pub are_before_header : List Tok → Bool
+are_before_header ts = are_directive ("include" ∷ []) ts || are ("import" ∷ []) ts || are ("export" ∷ "import" ∷ []) ts
+
+-- the tokens are those of a condition
+abbrev pub begins_condition : List Tok → Bool
+begins_condition ts = let opening = take 2 ts in are_directive ("if" ∷ []) opening || are_directive ("elif" ∷ []) opening
+
+-- `__has_include (` are the last two tokens
+abbrev pub ends_in_test : List Tok → Bool
+ends_in_test ts = are ("__has_include" ∷ "(" ∷ []) (drop (length ts - 2) ts)
 
 -- these tokens are too few to tell: with further ones they may begin a directive
 abbrev pub may_begin : List Tok → Bool

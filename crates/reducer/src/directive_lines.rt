@@ -1,78 +1,103 @@
-ghost use Rattle.std.specs.Prelude.{◌≡◌};
-ghost use Rattle.scan_model.specs.Spelling.{spells};
-ghost use Rattle.scan_model.specs.Lines.{is_import, is_module, is_module_line, begins_directive};
-ghost use Rattle.reducer.specs.Directives.{may_begin, is_text};
+ghost use Rattle.std.specs.Prelude.{◌≡◌, ◌≤◌, nat_eq, drop};
+ghost use lib.Pointwise.{pointwise};
+ghost use Rattle.scan_model.specs.Lines.{is_module_line, begins_directive};
+ghost use Rattle.reducer.specs.TokenTests.{at_tok};
+ghost use Rattle.reducer.specs.Building.{open_toks, IsSound};
+ghost use Rattle.reducer.specs.Directives.{begins_with_sharp, makes_import, makes_module, may_begin, is_text};
 
-use scan_model::{Kind, Tok};
+use crate::open_lines::OpenLines;
+use scan_model::Kind;
 
-fn is_word_export(tok: &Tok) -> bool
-    ensures { result ≡ spells "export" tok.now.text }
+/// Whether the token of this place is there, and spelled so.
+pub fn is_word(lines: &OpenLines, i: usize, word: &[u8]) -> bool
+    requires { IsSound lines.now }
+    ensures { result ≡ at_tok (λ t. pointwise nat_eq word.now t.text) (open_toks lines.now) i }
 {
-    tok.text.as_slice() == b"export".as_slice()
+    match lines.get(i) {
+        Some(tok) => word == tok.text,
+        None => false,
+    }
 }
 
-fn is_word_import(tok: &Tok) -> bool
-    ensures { result ≡ spells "import" tok.now.text }
+// Whether the token of this place makes a directive of an `import` before it: a header, a name or a partition.
+fn makes_import(lines: &OpenLines, i: usize) -> bool
+    requires { IsSound lines.now }
+    ensures { result ≡ at_tok makes_import (open_toks lines.now) i }
 {
-    tok.text.as_slice() == b"import".as_slice()
+    match lines.get(i) {
+        Some(tok) => {
+            matches!(tok.kind, Kind::Header | Kind::Ident | Kind::Str)
+                || matches!(tok.text, b"<" | b":")
+        }
+        None => false,
+    }
 }
 
-fn is_word_module(tok: &Tok) -> bool
-    ensures { result ≡ spells "module" tok.now.text }
+// Whether the token of this place makes a directive of a `module` before it: a name, a partition or the end of the
+// statement.
+fn makes_module(lines: &OpenLines, i: usize) -> bool
+    requires { IsSound lines.now }
+    ensures { result ≡ at_tok makes_module (open_toks lines.now) i }
 {
-    tok.text.as_slice() == b"module".as_slice()
+    match lines.get(i) {
+        Some(tok) => matches!(tok.kind, Kind::Ident) || matches!(tok.text, b":" | b";"),
+        None => false,
+    }
 }
 
-// What makes a directive of `import`: a header, a name or a partition follows.
-fn is_import(toks: &[Tok]) -> bool
-    ensures { result ≡ is_import toks.now }
+/// Whether the first token is a `#`, or spelled `%:`.
+pub fn begins_with_sharp(lines: &OpenLines) -> bool
+    requires { IsSound lines.now }
+    ensures { result ≡ begins_with_sharp (open_toks lines.now) }
 {
-    toks.len() >= 2
-        && is_word_import(&toks[0])
-        && (matches!(toks[1].kind, Kind::Header | Kind::Ident | Kind::Str)
-            || matches!(toks[1].text.as_slice(), b"<" | b":"))
+    is_word(lines, 0, b"#") || is_word(lines, 0, b"%:")
 }
 
-// What makes a directive of `module`: a name, a partition or the end of the statement follows.
-fn is_module(toks: &[Tok]) -> bool
-    ensures { result ≡ is_module toks.now }
+// Whether the tokens from the first or the second on begin a module line.
+fn is_module_line(lines: &OpenLines, first: usize) -> bool
+    requires sound { IsSound lines.now }
+    requires front { first ≤ 1 }
+    ensures { result ≡ is_module_line (drop first (open_toks lines.now)) }
 {
-    toks.len() >= 2
-        && is_word_module(&toks[0])
-        && (matches!(toks[1].kind, Kind::Ident) || matches!(toks[1].text.as_slice(), b":" | b";"))
+    (is_word(lines, first, b"import") & makes_import(lines, first + 1))
+        | (is_word(lines, first, b"module") & makes_module(lines, first + 1))
 }
 
-fn is_module_line(toks: &[Tok]) -> bool
-    ensures { result ≡ is_module_line toks.now }
+/// Whether a line of the open tokens is a directive ([cpp.pre]).
+pub fn begins_directive(lines: &OpenLines) -> bool
+    requires { IsSound lines.now }
+    ensures { result ≡ begins_directive (open_toks lines.now) }
 {
-    is_import(toks) || is_module(toks)
-}
-
-/// Whether a line of these tokens is a directive ([cpp.pre]).
-pub(crate) fn begins_directive(toks: &[Tok]) -> bool
-    ensures { result ≡ begins_directive toks.now }
-{
-    !toks.is_empty()
-        && (matches!(toks[0].text.as_slice(), b"#" | b"%:")
-            || is_module_line(toks)
-            || (is_word_export(&toks[0]) && is_module_line(&toks[1..])))
+    if begins_with_sharp(lines) {
+        return true;
+    }
+    is_module_line(lines, 0) | (is_word(lines, 0, b"export") & is_module_line(lines, 1))
 }
 
 // Whether further tokens may make a directive of these, which are none by themselves.
-fn may_begin(toks: &[Tok]) -> bool
-    ensures { result ≡ may_begin toks.now }
+fn may_begin(lines: &OpenLines) -> bool
+    requires { IsSound lines.now }
+    ensures { result ≡ may_begin (open_toks lines.now) }
 {
-    match toks.len() {
+    match lines.count() {
         0 => true,
-        1 => is_word_import(&toks[0]) || is_word_module(&toks[0]) || is_word_export(&toks[0]),
-        2 => { is_word_export(&toks[0]) && (is_word_import(&toks[1]) || is_word_module(&toks[1])) }
+        1 => {
+            is_word(lines, 0, b"import")
+                | is_word(lines, 0, b"module")
+                | is_word(lines, 0, b"export")
+        }
+        2 => {
+            is_word(lines, 0, b"export")
+                & (is_word(lines, 1, b"import") | is_word(lines, 1, b"module"))
+        }
         _ => false,
     }
 }
 
 /// Whether a line with these first tokens is no directive, whatever follows.
-pub(crate) fn is_text(toks: &[Tok]) -> bool
-    ensures { result ≡ is_text toks.now }
+pub fn is_text(lines: &OpenLines) -> bool
+    requires { IsSound lines.now }
+    ensures { result ≡ is_text (open_toks lines.now) }
 {
-    !begins_directive(toks) && !may_begin(toks)
+    !begins_directive(lines) && !may_begin(lines)
 }

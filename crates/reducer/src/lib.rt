@@ -3,7 +3,10 @@
 
 mod answer;
 mod directive_lines;
+mod flat;
 mod fronts;
+mod header_wanted;
+mod open_lines;
 mod reduced;
 mod reduction;
 

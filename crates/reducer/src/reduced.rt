@@ -3,7 +3,8 @@ ghost use Rattle.std.specs.Option.{option_map};
 ghost use Rattle.scan_model.specs.TokenTests.{is_of};
 ghost use Rattle.reducer.specs.ReducedLines.{AreReduced, toks_of};
 
-use scan_model::{Kind, Line};
+use crate::flat::{LineRecord, TokRecord, shown_token};
+use scan_model::Kind;
 use std::marker::Model;
 
 /// The kept lines of a text, which contracts see as the list of the lines.
@@ -11,19 +12,23 @@ use std::marker::Model;
 /// A line's number is at least the `next` of the line before, and the text of an identifier is well-formed UTF-8.
 #[derive(Drop)]
 pub struct Reduced {
-    lines: Vec<Line>,
+    // the spellings of all tokens, one after another
+    spelled: Vec<u8>,
+    // the tokens of all lines
+    toks: Vec<TokRecord>,
+    lines: Vec<LineRecord>,
 }
 
 impl Model for Reduced {
     ghost use Rattle.std.specs.Prelude.{List};
     ghost use Rattle.scan_model.specs.declared.token.Line.{Line};
-    ghost use Rattle.reducer.specs.ReducedLines.{AreReduced};
+    ghost use Rattle.reducer.specs.FlatLines.{lines_of, AreKept};
 
     ghost Value = { List Line };
 
-    ghost view = { λ r. r.lines.items };
+    ghost view = { λ r. lines_of r.spelled.items r.toks.items r.lines.items };
 
-    ghost invariant = { λ r. AreReduced r.lines.items };
+    ghost invariant = { λ r. AreKept r.spelled.items r.toks.items r.lines.items };
 }
 
 /// Where a kept line stands in its text.
@@ -48,13 +53,22 @@ pub struct TokView<'a> {
 }
 
 impl Reduced {
+    ghost use Rattle.reducer.specs.FlatLines.{lines_of, AreKept};
     ghost use Rattle.reducer.specs.Views.{head, view};
 
-    pub(crate) fn of_lines(lines: Vec<Line>) -> Reduced
-        requires { AreReduced lines.items }
-        ensures { result ≡ lines.items }
+    pub(crate) fn of_parts(
+        spelled: Vec<u8>,
+        toks: Vec<TokRecord>,
+        lines: Vec<LineRecord>,
+    ) -> Reduced
+        requires { AreKept spelled.items toks.items lines.items }
+        ensures { result ≡ lines_of spelled.items toks.items lines.items }
     {
-        Reduced { lines }
+        Reduced {
+            spelled,
+            toks,
+            lines,
+        }
     }
 
     /// The number of lines.
@@ -71,7 +85,7 @@ impl Reduced {
         ensures head { option_map head (slice_get self.now k) ≡ Some result }
         ensures valid { AreReduced self.now }
     {
-        let line = &self.lines[k as usize];
+        let line = self.lines[k as usize];
         LineHead {
             line: line.line,
             next: line.next,
@@ -84,7 +98,7 @@ impl Reduced {
         ensures toks { result ≡ length (toks_of self.now k) }
         ensures valid { AreReduced self.now }
     {
-        self.lines[k as usize].toks.as_slice().len() as u32
+        self.lines[k as usize].count
     }
 
     /// The token of the place i, from 0, of the line of the place k, from 0.
@@ -95,12 +109,8 @@ impl Reduced {
         ensures utf8 { IsTrue (is_of Kind.Ident (view result)) → IsUtf8 result.text.now }
         ensures valid { AreReduced self.now }
     {
-        let tok = &self.lines[k as usize].toks.as_slice()[i as usize];
-        TokView {
-            kind: tok.kind,
-            text: tok.text.as_slice(),
-            space: tok.space,
-            line: tok.line,
-        }
+        let line = self.lines[k as usize];
+        let tok = self.toks[line.start as usize + i as usize];
+        shown_token(&self.spelled, tok, line.line)
     }
 }

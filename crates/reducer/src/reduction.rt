@@ -1,15 +1,19 @@
-ghost use Rattle.std.specs.Prelude.{◌≡◌, ◌≤◌, ◌-◌, ◌++◌, [], ◌∷◌, IsTrue, length, drop, IfOk, OnOk};
+ghost use Rattle.std.specs.Prelude.{◌≡◌, ◌≤◌, ◌-◌, ◌++◌, [], length, drop, IfOk, OnOk};
 ghost use Rattle.std.specs.List.{filter};
 ghost use Rattle.line_splice.specs.Cursor.{text_of, rest};
 ghost use Rattle.scan_model.specs.Lines.{closed, is_directive, kept};
+ghost use Rattle.reducer.specs.Building.{kept_lines, open_toks, IsSound, HasLines};
 ghost use Rattle.reducer.specs.Directives.{IsPassed, kept_from};
+ghost use Rattle.reducer.specs.ReadToken.{ReadsToken};
 
 use crate::Reduced;
 use crate::directive_lines::{begins_directive, is_text};
 use crate::fronts::begins_text;
+use crate::header_wanted::wants_header;
+use crate::open_lines::OpenLines;
 use line_splice::Cursor;
-use pp_lexer::{pass_blanks, pass_token, token};
-use scan_model::{Items, Line, NoMemory, Tok};
+use pp_lexer::{is_on_line, pass_blanks, pass_lexeme, pass_token};
+use scan_model::NoMemory;
 use std::alloc::Global;
 
 // Goes on to the next line. No memory is taken for the tokens that are passed, which are those of a line that is no
@@ -32,94 +36,67 @@ fn pass_newline(at: &mut Cursor<'_>)
     }
 }
 
-// Adds the line of these tokens where it is a directive; the physical line `last` ends it.
-fn end_line(lines: &mut Vec<Line>, toks: Items<Tok>, last: u32) -> Result<(), NoMemory>
-    requires { last ≤ 33554433 }
-    ensures { OnOk result (lines.new.items ≡ lines.old.items ++ filter is_directive (closed toks last)) }
+// Reads the next token of the open line, and adds it. The answer is false exactly where a newline outside comments, or
+// the end, comes first; `at` then stands there.
+fn read_token(text: &[u8], at: &mut Cursor<'_>, lines: &mut OpenLines) -> Result<bool, NoMemory>
+    requires text { text_of at.old ≡ text.now }
+    requires sound { IsSound lines.old }
+    ensures text { text_of at.new ≡ text_of at.old }
+    ensures read { IfOk result (λ read. ReadsToken text.now lines.old (rest at.old) read lines.new (rest at.new)) }
 {
-    if begins_directive(toks.as_slice()) {
-        keep_line(lines, toks, last)
+    let space = pass_blanks(at) | lines.is_empty();
+    if !is_on_line(at) {
+        return Ok(false);
+    }
+    let from = *at;
+    let found = pass_lexeme(at, wants_header(lines));
+    lines.push(text, &from, found, at, space)?;
+    Ok(true)
+}
+
+// Adds the open line where it is a directive; the physical line `last` ends it.
+fn end_line(lines: &mut OpenLines, last: u32) -> Result<(), NoMemory>
+    requires sound { IsSound lines.old }
+    requires last { last ≤ 33554433 }
+    ensures { OnOk result (HasLines lines.old lines.new (filter is_directive (closed (open_toks lines.old) last))) }
+{
+    if begins_directive(lines) {
+        lines.keep_line(last)
     } else {
         Ok(())
     }
 }
 
-// Adds the line of these tokens, if there are any.
-fn keep_line(lines: &mut Vec<Line>, toks: Items<Tok>, last: u32) -> Result<(), NoMemory>
-    requires { last ≤ 33554433 }
-    ensures { OnOk result (lines.new.items ≡ lines.old.items ++ closed toks last) }
-{
-    match toks.as_slice() {
-        [first, ..] => {
-            let line = first.line;
-            push_line(
-                lines,
-                Line {
-                    toks,
-                    line,
-                    next: last + 1,
-                },
-            )
-        }
-        [] => Ok(()),
-    }
-}
-
-fn push_line(lines: &mut Vec<Line>, line: Line) -> Result<(), NoMemory>
-    ensures { OnOk result (lines.new.items ≡ lines.old.items ++ line ∷ []) }
-{
-    match lines.push(line) {
-        Ok(()) => Ok(()),
-        Err(_) => Err(NoMemory),
-    }
-}
-
-fn push_tok(toks: &mut Items<Tok>, tok: Tok) -> Result<(), NoMemory>
-    ensures { OnOk result (toks.new ≡ toks.old ++ tok ∷ []) }
-{
-    match toks.push(tok) {
-        Ok(()) => Ok(()),
-        Err(_) => Err(NoMemory),
-    }
-}
-
-// Reads the line that begins here, and adds it where it is a directive. Its tokens are built until they tell that it is
+// Reads the line that begins here, and adds it where it is a directive. Its tokens are added until they tell that it is
 // none.
-fn read_line(
-    alloc: Global,
-    text: &[u8],
-    at: &mut Cursor<'_>,
-    lines: &mut Vec<Line>,
-) -> Result<(), NoMemory>
-    requires { text_of at.old ≡ text.now }
+fn read_line(text: &[u8], at: &mut Cursor<'_>, lines: &mut OpenLines) -> Result<(), NoMemory>
+    requires text { text_of at.old ≡ text.now }
+    requires sound { IsSound lines.old }
     ensures text { text_of at.new ≡ text_of at.old }
-    ensures kept { OnOk result (lines.new.items ++ kept_from text.now [] (rest at.new) ≡ lines.old.items ++ kept_from text.now [] (rest at.old)) }
+    ensures sound { OnOk result (IsSound lines.new) }
+    ensures kept { OnOk result (kept_lines lines.new ++ kept_from text.now [] (rest at.new) ≡ kept_lines lines.old ++ kept_from text.now [] (rest at.old)) }
     ensures less { OnOk result (length (rest at.new) ≤ length (rest at.old) - 1) }
 {
-    let mut toks = Items::new(alloc);
-    'toks: while let Some(tok) = token(alloc, text, at, toks.as_slice())? {
-        push_tok(&mut toks, tok)?;
-        if is_text(toks.as_slice()) {
+    lines.drop_line();
+    'toks: while read_token(text, at, lines)? {
+        if is_text(lines) {
             pass_line(at);
             return Ok(());
         }
     }
-    end_line(lines, toks, at.line())?;
+    end_line(lines, at.line())?;
     pass_newline(at);
     Ok(())
 }
 
 // Reads or passes the line that begins here, and adds it where it is a directive. Where its front tells that it is none,
-// no token of it is built.
-fn reduce_line(
-    alloc: Global,
-    text: &[u8],
-    at: &mut Cursor<'_>,
-    lines: &mut Vec<Line>,
-) -> Result<(), NoMemory>
-    requires { text_of at.old ≡ text.now }
+// no token of it is kept.
+fn reduce_line(text: &[u8], at: &mut Cursor<'_>, lines: &mut OpenLines) -> Result<(), NoMemory>
+    requires text { text_of at.old ≡ text.now }
+    requires sound { IsSound lines.old }
     ensures text { text_of at.new ≡ text_of at.old }
-    ensures kept { OnOk result (lines.new.items ++ kept_from text.now [] (rest at.new) ≡ lines.old.items ++ kept_from text.now [] (rest at.old)) }
+    ensures sound { OnOk result (IsSound lines.new) }
+    ensures kept { OnOk result (kept_lines lines.new ++ kept_from text.now [] (rest at.new) ≡ kept_lines lines.old ++ kept_from text.now [] (rest at.old)) }
     ensures less { OnOk result (length (rest at.new) ≤ length (rest at.old) - 1) }
 {
     pass_blanks(at);
@@ -128,20 +105,26 @@ fn reduce_line(
         pass_line(at);
         return Ok(());
     }
-    read_line(alloc, text, at, lines)
+    read_line(text, at, lines)
 }
 
 /// The lines of the text that are directives ([cpp.pre]). `Err` is want of memory. A text has at most 32 MiB.
 ///
-/// No tokens are built for the other lines, but the first few where those must tell.
+/// Of the other lines no token is kept, and no more are read to be kept than the first few, where those must tell. No
+/// token has memory of its own.
 pub fn reduce(alloc: Global, text: &[u8]) -> Result<Reduced, NoMemory>
     requires { length text.now ≤ 33554432 }
     ensures { IfOk result (λ reduced. reduced ≡ kept text.now) }
 {
     let mut at = Cursor::new(text);
-    let mut lines = Vec::new(alloc);
-    'lines: while !at.is_end() {
-        reduce_line(alloc, text, &mut at, &mut lines)?;
+    let mut lines = OpenLines::new(alloc);
+    'lines: while let Some(byte) = at.peek() {
+        // Many lines are empty: their newline is passed at once.
+        if byte == b'\n' {
+            at.advance();
+            continue;
+        }
+        reduce_line(text, &mut at, &mut lines)?;
     }
-    Ok(Reduced::of_lines(lines))
+    Ok(lines.into_reduced())
 }

@@ -1,4 +1,3 @@
-use crate::directive_lines::begins_directive;
 use crate::*;
 use pp_lexer::lines;
 use scan_model::Line;
@@ -23,7 +22,7 @@ fn kept(line: u32, next: u32, spelled: &'static [u8]) -> Want {
     }
 }
 
-// The text is reduced to these lines, and they are those of all its lines that are directives.
+// The text is reduced to these lines, and each is that of its number among all its lines.
 fn reduces(rt: &impl Abort, alloc: Global, text: &[u8], want: &[Want]) -> Result<(), Fail> {
     if text.len() > 1000 {
         return Err("long".into());
@@ -40,7 +39,7 @@ fn reduces(rt: &impl Abort, alloc: Global, text: &[u8], want: &[Want]) -> Result
     let all = lines(alloc, text).ok().ok_or("memory")?;
     let mut place = 0;
     for line in all.as_slice() {
-        if begins_directive(line.toks.as_slice()) {
+        if place < reduced.len() && reduced.line(place).line == line.line {
             is_line(rt, &reduced, place, line)?;
             place = place.saturating_add(1);
         }

@@ -27,7 +27,7 @@ returns-clause-token c =
     let some : 0 < length (line at) = ltb-true 0 (length (line at)) (sym c.is_on_line.ensures ∙ c.if-not-is_on_line.false) in
     let whole = c.pass_blanks.ensures.text ∙ c.requires in (
       record { kind = found.kind; text = bytes; left = left },
-      token_some text before s at _ c.pass_blanks.ensures.rest some (ap (λ t. lexeme t before at) (sym whole) ∙ c.pass_lexeme-found.ensures.lexeme
+      token_some text before s at _ c.pass_blanks.ensures.rest some (ap (λ t. lexeme t before at) (sym whole) ∙ c.pass_lexeme-found.ensures.lexeme before (sym c.wants_header.ensures)
           ∙ ap (λ t. record { kind = found.kind; text = spelling_of t found.spelling at left; left = left }) whole),
       ap (λ b. record { kind = found.kind; text = b; space = c.pass_blanks.result || c.is_nil.result; line = c.line_here-line.result }) (c.of_vec.ensures ∙ c.in_ok-spelling.ensures)
           ∙ tok_is text before s at left found.kind bytes _ _ c.pass_blanks.ensures.rest

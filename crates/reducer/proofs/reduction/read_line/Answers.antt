@@ -1,46 +1,70 @@
-use Rattle.std.proofs.Common.{◌∙◌, ap, sym, arith}
+use Rattle.std.proofs.Common.{◌++◌, [], true, false, ◌∙◌, ap, sym, arith}
+use Rattle.std.specs.List.{filter}
 use Rattle.line_splice.specs.Cursor.{rest}
 use Rattle.scan_model.specs.Spliced.{line_at}
+use Rattle.scan_model.specs.Lines.{closed, is_directive}
+use Rattle.reducer.specs.Building.{kept_lines, open_toks}
+use Rattle.reducer.specs.Directives.{kept_from}
 use Rattle.reducer.proofs.PassLemmas.{line_less}
-use Rattle.reducer.proofs.TurnLemmas.{as_given, token_smaller, token_turn, line_turn, dropped_turn}
+use Rattle.reducer.proofs.TurnLemmas.{as_read, read_smaller, read_turn, line_turn, dropped_turn}
 use Rattle.reducer.proofs.reduction.read_line.Goals as goal
 
 pub returns-then-is_text-clause-kept : goal.returns-then-is_text-clause-kept
 returns-then-is_text-clause-kept c =
-    let given = as_given c.args.text.now _ c.toks.toks (rest c.toks.at) (rest c.token.new.at) _ _ c.in_ok-tok.ensures.token c.as_slice.ensures c.in-Some.is in
-    let turn = token_turn c.args.text.now c.toks.toks c.push_tok.new.toks (rest c.toks.at) (rest c.token.new.at) c.in-Some.tok given c.in_ok-push_tok.ensures in
-    dropped_turn c.args.text.now c.token.new.at.text.now c.args.lines.now.items c.push_tok.new.toks c.as_slice-in-Some.result.now (rest c.args.at.now) (rest c.token.new.at) (rest c.pass_line.new.at)
-    (c.token.ensures.text ∙ c.toks.invariant.same) (c.toks.invariant.kept ∙ turn) c.pass_line.ensures.kept c.as_slice-in-Some.ensures (sym c.is_text.ensures ∙ c.if-is_text.true)
+    let text = c.args.text.now in
+    let after = c.read_token.new.lines in
+    let read = as_read text c.toks.lines after (rest c.toks.at) (rest c.read_token.new.at) _ true c.in_ok-read_token.ensures.read c.if-branch.true in
+    ap (λ ls. ls ++ kept_from text [] (rest c.pass_line.new.at)) (read.2.kept ∙ c.toks.invariant.lines ∙ c.drop_line.ensures.kept)
+    ∙ dropped_turn text c.read_token.new.at.text.now (kept_lines c.args.lines.now) (open_toks after) (rest c.args.at.now) (rest c.read_token.new.at) (rest c.pass_line.new.at)
+    (c.read_token.ensures.text ∙ c.toks.invariant.same) (c.toks.invariant.kept ∙ read_turn text c.toks.lines after (rest c.toks.at) (rest c.read_token.new.at) read)
+    c.pass_line.ensures.kept (sym c.is_text.ensures ∙ c.if-is_text.true)
 
 pub returns-then-is_text-clause-less : goal.returns-then-is_text-clause-less
 returns-then-is_text-clause-less c =
-    let given = as_given c.args.text.now _ c.toks.toks (rest c.toks.at) (rest c.token.new.at) _ _ c.in_ok-tok.ensures.token c.as_slice.ensures c.in-Some.is in
-    let less = token_smaller c.args.text.now c.toks.toks (rest c.toks.at) (rest c.token.new.at) c.in-Some.tok given in
+    let text = c.args.text.now in
+    let after = c.read_token.new.lines in
+    let read = as_read text c.toks.lines after (rest c.toks.at) (rest c.read_token.new.at) _ true c.in_ok-read_token.ensures.read c.if-branch.true in
+    let less = read_smaller text c.toks.lines after (rest c.toks.at) (rest c.read_token.new.at) read in
     omega (arith, less, c.pass_line.ensures.less, c.toks.invariant.less)
 
 pub toks-smaller : goal.toks-smaller
 toks-smaller c =
-    let given = as_given c.args.text.now _ c.toks.toks (rest c.toks.at) (rest c.token.new.at) _ _ c.in_ok-tok.ensures.token c.as_slice.ensures c.in-Some.is in
-    token_smaller c.args.text.now c.toks.toks (rest c.toks.at) (rest c.token.new.at) c.in-Some.tok given
+    let text = c.args.text.now in
+    let after = c.read_token.new.lines in
+    read_smaller text c.toks.lines after (rest c.toks.at) (rest c.read_token.new.at)
+    (as_read text c.toks.lines after (rest c.toks.at) (rest c.read_token.new.at) _ true c.in_ok-read_token.ensures.read c.if-branch.true)
 
 pub toks-preserved : goal.toks-preserved
 toks-preserved c =
-    let given = as_given c.args.text.now _ c.toks.toks (rest c.toks.at) (rest c.token.new.at) _ _ c.in_ok-tok.ensures.token c.as_slice.ensures c.in-Some.is in
-    let less = token_smaller c.args.text.now c.toks.toks (rest c.toks.at) (rest c.token.new.at) c.in-Some.tok given in
+    let text = c.args.text.now in
+    let after = c.read_token.new.lines in
+    let read = as_read text c.toks.lines after (rest c.toks.at) (rest c.read_token.new.at) _ true c.in_ok-read_token.ensures.read c.if-branch.true in
+    let less = read_smaller text c.toks.lines after (rest c.toks.at) (rest c.read_token.new.at) read in
     record {
-      same = c.token.ensures.text ∙ c.toks.invariant.same;
-      kept = c.toks.invariant.kept ∙ token_turn c.args.text.now c.toks.toks c.push_tok.new.toks (rest c.toks.at) (rest c.token.new.at) c.in-Some.tok given c.in_ok-push_tok.ensures;
+      same = c.read_token.ensures.text ∙ c.toks.invariant.same;
+      sound = read.2.sound;
+      lines = read.2.kept ∙ c.toks.invariant.lines;
+      kept = c.toks.invariant.kept ∙ read_turn text c.toks.lines after (rest c.toks.at) (rest c.read_token.new.at) read;
       less = omega (arith, less, c.toks.invariant.less);
     }
 
 pub returns-clause-kept : goal.returns-clause-kept
 returns-clause-kept c =
-    let given = as_given c.args.text.now _ c.toks.toks (rest c.toks.at) (rest c.token.new.at) _ _ c.in_ok-tok.ensures.token c.as_slice.ensures c.in_default.is in
-    line_turn c.args.text.now c.args.lines.now.items c.end_line.new.lines.items c.toks.toks (rest c.args.at.now) (rest c.toks.at) (rest c.token.new.at) (rest c.pass_newline.new.at) c.line.result
-    c.toks.invariant.kept given (c.line.ensures.value ∙ ap (λ t. line_at t (rest c.token.new.at)) (c.token.ensures.text ∙ c.toks.invariant.same)) c.in_ok-end_line.ensures c.pass_newline.ensures.rest
+    let text = c.args.text.now in
+    let b = c.toks.lines in
+    let left = rest c.read_token.new.at in
+    let last = c.line.result in
+    let line = filter is_directive (closed (open_toks b) last) in
+    let read = as_read text b c.read_token.new.lines (rest c.toks.at) left _ false c.in_ok-read_token.ensures.read c.if-branch.false in
+    line_turn text (kept_lines c.args.lines.now) (kept_lines c.end_line.new.lines) (open_toks b) (rest c.args.at.now) (rest c.toks.at) left (rest c.pass_newline.new.at) last
+    c.toks.invariant.kept read.0 (c.line.ensures.value ∙ ap (λ t. line_at t left) (c.read_token.ensures.text ∙ c.toks.invariant.same))
+    (c.in_ok-end_line.ensures.added ∙ ap (λ b. kept_lines b ++ filter is_directive (closed (open_toks b) last)) read.1
+    ∙ ap (λ ls. ls ++ line) (c.toks.invariant.lines ∙ c.drop_line.ensures.kept)) c.pass_newline.ensures.rest
 
 pub returns-clause-less : goal.returns-clause-less
 returns-clause-less c =
-    let given = as_given c.args.text.now _ c.toks.toks (rest c.toks.at) (rest c.token.new.at) _ _ c.in_ok-tok.ensures.token c.as_slice.ensures c.in_default.is in
-    let less = line_less (rest c.toks.at) (rest c.token.new.at) (rest c.pass_newline.new.at) given.1 c.pass_newline.ensures.rest in
+    let text = c.args.text.now in
+    let left = rest c.read_token.new.at in
+    let read = as_read text c.toks.lines c.read_token.new.lines (rest c.toks.at) left _ false c.in_ok-read_token.ensures.read c.if-branch.false in
+    let less = line_less (rest c.toks.at) left (rest c.pass_newline.new.at) read.0.1 c.pass_newline.ensures.rest in
     omega (arith, less, c.toks.invariant.less)

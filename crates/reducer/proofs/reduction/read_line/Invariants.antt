@@ -1,12 +1,15 @@
 use Rattle.std.proofs.Common.{◌≡◌, ◌≤◌, [], length}
 use Rattle.line_splice.specs.Cursor.{rest}
+use Rattle.reducer.specs.Building.{kept_lines, open_toks, IsSound}
 use Rattle.reducer.specs.Directives.{kept_from}
 use Rattle.reducer.proofs.reduction.read_line.Given as goal
 
 abbrev pub invariant-toks : goal.invariant-toks
 invariant-toks l = record {
   same : l.at.text.now ≡ l.text;
-  kept : kept_from l.text [] (rest l.initial.at) ≡ kept_from l.text l.toks (rest l.at);
+  sound : IsSound l.lines;
+  lines : kept_lines l.lines ≡ kept_lines l.initial.lines;
+  kept : kept_from l.text [] (rest l.initial.at) ≡ kept_from l.text (open_toks l.lines) (rest l.at);
   less : length (rest l.at) ≤ length (rest l.initial.at);
 }
 

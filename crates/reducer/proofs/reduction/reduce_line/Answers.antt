@@ -1,5 +1,6 @@
 use Rattle.std.proofs.Common.{◌∙◌, sym, arith}
 use Rattle.line_splice.specs.Cursor.{rest}
+use Rattle.reducer.specs.Building.{kept_lines}
 use Rattle.reducer.proofs.PassLemmas.{blanks_kept, blanks_less, on_ok, passed_front, blanks_stop, first_smaller}
 use Rattle.reducer.proofs.reduction.reduce_line.Goals as goal
 
@@ -7,9 +8,9 @@ pub returns-then-begins_text-clause-kept : goal.returns-then-begins_text-clause-
 returns-then-begins_text-clause-kept c =
     let at = rest c.pass_blanks.new.at in
     let text = c.args.text.now in
-    blanks_kept text c.args.lines.now.items _ (rest c.args.at.now) at c.pass_blanks.ensures.rest
-    (passed_front text c.pass_blanks.new.at.text.now c.pass_token.new.at.text.now c.args.lines.now.items at (rest c.pass_token.new.at) (rest c.pass_line.new.at) c.pass_token.result
-    (c.pass_blanks.ensures.text ∙ c.requires) (c.pass_token.ensures.text ∙ c.pass_blanks.ensures.text ∙ c.requires)
+    blanks_kept text (kept_lines c.args.lines.now) _ (rest c.args.at.now) at c.pass_blanks.ensures.rest
+    (passed_front text c.pass_blanks.new.at.text.now c.pass_token.new.at.text.now (kept_lines c.args.lines.now) at (rest c.pass_token.new.at) (rest c.pass_line.new.at) c.pass_token.result
+    (c.pass_blanks.ensures.text ∙ c.requires.text) (c.pass_token.ensures.text ∙ c.pass_blanks.ensures.text ∙ c.requires.text)
     (blanks_stop (rest c.args.at.now) at c.pass_blanks.ensures.rest) (sym c.begins_text.ensures ∙ c.if-begins_text.true) c.pass_token.ensures.passed c.pass_line.ensures.kept)
 
 pub returns-then-begins_text-clause-less : goal.returns-then-begins_text-clause-less
@@ -23,7 +24,7 @@ returns-then-begins_text-clause-less c =
 
 pub returns-clause-kept : goal.returns-clause-kept
 returns-clause-kept c =
-    on_ok c.read_line.result _ _ (blanks_kept c.args.text.now c.args.lines.now.items _ (rest c.args.at.now) (rest c.pass_blanks.new.at) c.pass_blanks.ensures.rest) c.read_line.ensures.kept
+    on_ok c.read_line.result _ _ (blanks_kept c.args.text.now (kept_lines c.args.lines.now) _ (rest c.args.at.now) (rest c.pass_blanks.new.at) c.pass_blanks.ensures.rest) c.read_line.ensures.kept
 
 pub returns-clause-less : goal.returns-clause-less
 returns-clause-less c =
