@@ -1,5 +1,5 @@
 -- Steps of a cursor along its line.
-use Rattle.std.proofs.Common.{◌<◌, ◌≡◌, ◌≢◌, ℕ, suc, ◌+◌, ◌<◌, ◌≤◌, List, [], ◌∷◌, refl, ap, sym, ◌∙◌, drop, length, length-drop, arith, Some, None}
+use Rattle.std.proofs.Common.{◌<◌, ◌≡◌, ◌≢◌, ℕ, suc, ◌+◌, ◌-◌, ◌<◌, ◌≤◌, List, [], ◌∷◌, refl, ap, sym, ◌∙◌, drop, length, length-drop, arith, Some, None}
 use Rattle.std.proofs.lemmas.Bool.{ne_eqb, eq-eqb}
 use Rattle.std.proofs.lemmas.List.{drop-drop}
 use Rattle.scan_model.specs.Spliced.{Spot, byte_at}
@@ -35,6 +35,21 @@ along_more a b d c along here ne e =
       within = omega (arith, whole, length-drop along.len (line a), along.within);
       left = e ∙ ap (drop 1) along.left ∙ drop-drop 1 along.len a;
     }
+
+pub along_further : (a b d : List Spot) → Along a b → Along b d → Along a d
+along_further a b d p q =
+    let left : length (line b) ≡ length (line a) - p.len = ap length (along_line a b p) ∙ length-drop p.len (line a) in record {
+      len = p.len + q.len;
+      within = omega (arith, left, p.within, q.within);
+      left = q.left ∙ ap (drop q.len) p.left ∙ drop-drop q.len p.len a ∙ ap (λ k. drop k a) (omega arith);
+    }
+
+pub along_shorter : (a b : List Spot) → Along a b → length b ≤ length a
+along_shorter a b p = let e : length b ≡ length (drop p.len a) = ap length p.left in omega (arith, e, length-drop p.len a)
+
+pub byte_at-positive : (s : List Spot) (c : ℕ) → byte_at s ≡ Some c → 0 < length s
+byte_at-positive [] c here = cc
+byte_at-positive (x ∷ s) c here = omega arith
 
 -- at the line's end
 pub along_end : (a b : List Spot) → Along a b → line b ≡ [] → b ≡ drop (length (line a)) a

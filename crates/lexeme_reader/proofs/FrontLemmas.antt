@@ -22,7 +22,7 @@ scalar_one c h = (and_one _ h, ([], sym (append-nil (encode_utf8 c)))) where
   and_one true h = refl
   and_one false h = h
 
-ascii_scalar : (c : ℕ) → c < 128 → IsScalar c
+pub ascii_scalar : (c : ℕ) → c < 128 → IsScalar c
 ascii_scalar c low = grind (arith, nat_tests)
 
 pub ascii_begins : (s : List Spot) (c : ℕ) → byte_at s ≡ Some c → c < 128 → BeginsWith c (bytes s)

@@ -13,3 +13,4 @@ pub mod RawLemmas
 pub mod DelimiterLemmas
 pub mod PlaceLemmas
 pub mod RawStringLemmas
+pub mod RunLemmas

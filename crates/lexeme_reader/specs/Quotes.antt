@@ -24,6 +24,10 @@ IsOpening None s = (opens_raw s ≡ false) × (opens 39 s ≡ false) × (opens 3
 IsOpening (Some Raw) s = (opens_raw s ≡ true) × (opens 39 s ≡ false) × (opens 34 s ≡ false)
 IsOpening (Some (Quoted quote)) s = (opens_raw s ≡ false) × (opens (quote_byte quote) s ≡ true) × (opens (quote_byte (other_quote quote)) s ≡ false)
 
+-- a literal may begin with the byte: a quote, `u`, `U`, `L` or `R`
+abbrev pub may_open : ℕ → Bool
+may_open c = (c == 39 || c == 34) || c == 117 || c == 85 || c == 76 || c == 82
+
 -- the length of the prefix that two bytes begin
 abbrev pub encoding_of : ℕ → ℕ → ℕ
 encoding_of a b = if a == 117 && b == 56 then 2 else if a == 117 || a == 85 || a == 76 then 1 else 0

@@ -1,10 +1,11 @@
-ghost use Rattle.std.specs.Prelude.{◌≡◌, ◌<◌, ◌≤◌, length, drop, MatchOption};
+ghost use Rattle.std.specs.Prelude.{◌≡◌, ◌<◌, ◌≤◌, Some, length, drop, MatchOption};
 ghost use Rattle.std.specs.Char.{encode_utf8};
 ghost use Rattle.std.specs.Str.{IsUtf8};
 ghost use Rattle.line_splice.specs.Cursor.{text_of, rest};
+ghost use Rattle.scan_model.specs.Spliced.{byte_at};
 ghost use Rattle.scan_model.specs.Tokens.{bytes};
 ghost use Rattle.lexeme_reader.specs.Fronts.{line, character_len};
-ghost use Rattle.lexeme_reader.specs.Character.{BeginsWith, NoCharacter};
+ghost use Rattle.lexeme_reader.specs.Character.{may_begin, BeginsWith, NoCharacter};
 
 use crate::steps::pass_bytes;
 use line_splice::Cursor;
@@ -40,14 +41,44 @@ fn encoded_character(at: &Cursor<'_>) -> Option<char>
     None
 }
 
+// Whether a character of more than one byte may begin with these two bytes.
+fn may_begin(first: u8, second: u8) -> bool
+    ensures { result ≡ may_begin first second }
+{
+    (first >= 0xC2) & (first <= 0xF4) & (second >= 0x80) & (second <= 0xBF)
+}
+
+// The character of more than one byte that stands here, if one does: most bytes that begin none are told by the one that
+// follows.
+fn long_character(at: &Cursor<'_>, first: u8) -> Option<char>
+    requires here { byte_at (rest at.now) ≡ Some first }
+    requires long { 128 ≤ first }
+    ensures { MatchOption result (NoCharacter (bytes (rest at.now)))
+        (λ c. BeginsWith c (bytes (rest at.now))) }
+{
+    let mut next = *at;
+    next.advance();
+    let second = next.peek().unwrap_or(0);
+    if !may_begin(first, second) {
+        return None;
+    }
+    encoded_character(at)
+}
+
 // The character that stands here, if one does. Most are a byte below 128, which is one by itself.
 pub fn character(at: &Cursor<'_>) -> Option<char>
     ensures { MatchOption result (NoCharacter (bytes (rest at.now)))
         (λ c. BeginsWith c (bytes (rest at.now))) }
 {
     match at.peek() {
-        Some(byte) if byte < 128 => Some(char::from(byte)),
-        _ => encoded_character(at),
+        Some(byte) => {
+            if byte < 128 {
+                Some(char::from(byte))
+            } else {
+                long_character(at, byte)
+            }
+        }
+        None => None,
     }
 }
 

@@ -1,11 +1,13 @@
-ghost use Rattle.std.specs.Prelude.{◌≡◌, ◌<◌, nat_lt, length, drop};
+ghost use Rattle.std.specs.Prelude.{◌≡◌, ◌<◌, ◌≤◌, nat_lt, length, drop, take, IsTrue};
+ghost use Rattle.std.specs.List.{list_all};
 ghost use Rattle.std.specs.Char.{encode_utf8};
 ghost use Rattle.line_splice.specs.Cursor.{text_of, rest};
 ghost use Rattle.scan_model.specs.Spelling.{is_start, is_continue, is_name, longest};
 ghost use Rattle.scan_model.specs.Tokens.{bytes};
 ghost use Rattle.lexeme_reader.specs.Character.{BeginsWith};
 ghost use Rattle.lexeme_reader.specs.Fronts.{line};
-ghost use Rattle.lexeme_reader.specs.Names.{PassesName};
+ghost use Rattle.lexeme_reader.specs.Names.{is_word_byte, PassesWord, PassesName};
+ghost use Rattle.lexeme_reader.specs.Passes.{PassesRun};
 
 use crate::character::{character, pass_found};
 use line_splice::Cursor;
@@ -45,6 +47,46 @@ pub fn begins_name(at: &Cursor<'_>) -> bool
     }
 }
 
+// Whether a name may go on with the byte, which is a character by itself.
+fn is_word_byte(byte: u8) -> bool
+    ensures { result ≡ is_word_byte byte }
+{
+    byte < 128 && is_continue(char::from(byte))
+}
+
+// How many such bytes the text begins with.
+fn word_len(written: &[u8]) -> usize
+    ensures within { result ≤ length written.now }
+    ensures all { IsTrue (list_all is_word_byte (take result written.now)) }
+{
+    for i in 0..written.len() {
+        if !is_word_byte(written[i]) {
+            return i;
+        }
+    }
+    written.len()
+}
+
+// Passes such bytes as they are written, at once.
+fn pass_word_bytes(at: &mut Cursor<'_>)
+    ensures text { text_of at.new ≡ text_of at.old }
+    ensures run { PassesRun is_word_byte (rest at.old) (rest at.new) }
+{
+    let count = word_len(at.ahead());
+    at.pass_plain(count);
+}
+
+// Passes the character that stands here, with which a name may go on, and such bytes after it.
+fn pass_word(at: &mut Cursor<'_>, found: char)
+    requires here { BeginsWith found (bytes (rest at.old)) }
+    requires continues { IsTrue (is_continue found) }
+    ensures text { text_of at.new ≡ text_of at.old }
+    ensures word { PassesWord (rest at.old) (rest at.new) }
+{
+    pass_found(at, found);
+    pass_word_bytes(at);
+}
+
 // Passes what may go on with a name.
 fn pass_continuing(at: &mut Cursor<'_>)
     ensures text { text_of at.new ≡ text_of at.old }
@@ -54,7 +96,7 @@ fn pass_continuing(at: &mut Cursor<'_>)
         if !is_continue(found) {
             break;
         }
-        pass_found(at, found);
+        pass_word(at, found);
     }
 }
 

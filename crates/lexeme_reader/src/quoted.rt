@@ -1,12 +1,12 @@
 ghost use Rattle.std.specs.Prelude.{◌≡◌, ◌≤◌, IsTrue, Some, is_some, length, drop};
 ghost use Rattle.std.specs.Bool.{OnTrue, OnFalse};
 ghost use Rattle.line_splice.specs.Cursor.{text_of, rest};
-ghost use Rattle.scan_model.specs.Spelling.{encoding_len, opens, after_quoted, is_quoted, longest};
-ghost use Rattle.lexeme_reader.specs.Fronts.{line};
-ghost use Rattle.lexeme_reader.specs.Quotes.{quote_byte, IsOpening, encoding_of, opening_of, PassesItems};
+ghost use Rattle.scan_model.specs.Spelling.{encoding_len, opens, after_items, after_quoted, is_quoted, longest};
+ghost use Rattle.lexeme_reader.specs.Fronts.{line, Along};
+ghost use Rattle.lexeme_reader.specs.Quotes.{quote_byte, may_open, IsOpening, encoding_of, opening_of, PassesItems};
 
 use crate::name::pass_name;
-use crate::steps::{first_byte, pass_bytes, second_byte};
+use crate::steps::{first_byte, pass_bytes, pass_until, second_byte};
 use line_splice::Cursor;
 
 /// What a literal without `R` is quoted in.
@@ -79,13 +79,43 @@ fn opening_of(first: u8, second: u8) -> Option<Opening>
     }
 }
 
+// Whether a literal may begin with the byte.
+fn may_open(byte: u8) -> bool
+    ensures { result ≡ may_open byte }
+{
+    let is_quote = (byte == b'\'') | (byte == b'"');
+    is_quote | (byte == b'u') | (byte == b'U') | (byte == b'L') | (byte == b'R')
+}
+
 /// How the literal opens that stands here, if one does ([lex.ccon], [lex.string]).
 pub fn literal_at(at: &Cursor<'_>) -> Option<Opening>
+    ensures { IsOpening result (line (rest at.now)) }
+{
+    if may_open(first_byte(at)) {
+        prefixed_literal_at(at)
+    } else {
+        None
+    }
+}
+
+// The same, after a prefix or none.
+fn prefixed_literal_at(at: &Cursor<'_>) -> Option<Opening>
     ensures { IsOpening result (line (rest at.now)) }
 {
     let mut next = *at;
     pass_encoding(&mut next);
     opening_of(first_byte(&next), second_byte(&next))
+}
+
+// Passes what stands up to the next quote or backslash, if no backslash stands before.
+fn pass_inside(at: &mut Cursor<'_>, quote: u8, escaped: bool)
+    ensures text { text_of at.new ≡ text_of at.old }
+    ensures along { Along (rest at.old) (rest at.new) }
+    ensures items { after_items quote escaped (line (rest at.old)) ≡ after_items quote escaped (line (rest at.new)) }
+{
+    if !escaped {
+        pass_until(at, quote);
+    }
 }
 
 // Passes the items of a literal and the quote that closes it. The answer says whether one does: where none does, the
@@ -104,6 +134,7 @@ fn pass_items(at: &mut Cursor<'_>, quote: u8) -> bool
             return true;
         }
         escaped = !escaped & (byte == b'\\');
+        pass_inside(at, quote, escaped);
     }
     false
 }

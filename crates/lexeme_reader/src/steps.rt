@@ -1,7 +1,9 @@
-ghost use Rattle.std.specs.Prelude.{◌≡◌, ◌≤◌, length, drop, slice_index};
+ghost use Rattle.std.specs.Prelude.{◌≡◌, ◌≤◌, length, drop, take, IsTrue, slice_index};
+ghost use Rattle.std.specs.List.{list_all};
 ghost use Rattle.line_splice.specs.Cursor.{text_of, rest};
 ghost use Rattle.scan_model.specs.Tokens.{from_place};
 ghost use Rattle.lexeme_reader.specs.Fronts.{line};
+ghost use Rattle.lexeme_reader.specs.Passes.{goes_past, PassesRun};
 
 use line_splice::Cursor;
 
@@ -14,6 +16,36 @@ pub fn pass_bytes(at: &mut Cursor<'_>, count: usize)
     'bytes: for _ in 0..count {
         at.advance();
     }
+}
+
+// Whether the byte shows as it is written, and is another one than `stop`.
+fn goes_past(stop: u8, byte: u8) -> bool
+    ensures { result ≡ goes_past stop byte }
+{
+    !((byte == stop) | (byte == b'\\') | (byte == b'\r') | (byte == b'\n'))
+}
+
+// How many such bytes the text begins with.
+fn run_len(written: &[u8], stop: u8) -> usize
+    ensures within { result ≤ length written.now }
+    ensures all { IsTrue (list_all (goes_past stop) (take result written.now)) }
+{
+    for i in 0..written.len() {
+        if !goes_past(stop, written[i]) {
+            return i;
+        }
+    }
+    written.len()
+}
+
+/// Passes the bytes that come next up to `stop`, or to one before it that may not show as it is written: a backslash,
+/// CR or LF. They are passed at once, and none may be there.
+pub fn pass_until(at: &mut Cursor<'_>, stop: u8)
+    ensures text { text_of at.new ≡ text_of at.old }
+    ensures run { PassesRun (goes_past stop) (rest at.old) (rest at.new) }
+{
+    let count = run_len(at.ahead(), stop);
+    at.pass_plain(count);
 }
 
 // The next byte of the line, or 0 at its end.

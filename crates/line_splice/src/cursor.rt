@@ -1,4 +1,6 @@
-ghost use Rattle.std.specs.Prelude.{◌≡◌, ◌≢◌, ◌+◌, ◌≤◌, ◌<◌, ◌↔◌, [], length, drop, IsTrue, IsFalse, if◌then◌else◌};
+ghost use Rattle.std.specs.Prelude.{◌≡◌, ◌≢◌, ◌+◌, ◌≤◌, ◌<◌, ◌↔◌, [], length, drop, take, IsTrue, IsFalse, if◌then◌else◌};
+ghost use Rattle.std.specs.List.{list_all};
+ghost use Rattle.scan_model.specs.Tokens.{bytes};
 ghost use Rattle.scan_model.specs.Spliced.{spliced, last_line, byte_at, line_at, place_at};
 ghost use Rattle.line_splice.specs.Rest.{at_splice, rest_of};
 
@@ -31,6 +33,7 @@ fn line_after(is_end: bool, line: u32, next: u32) -> u32
 
 impl<'a> Cursor<'a> {
     ghost use Rattle.line_splice.specs.Cursor.{text_of, rest};
+    ghost use Rattle.line_splice.specs.Plain.{shows_itself, ahead_of};
 
     /// Stands at the first byte that shows. A text has at most 32 MiB.
     #[tactic(auto, unfolding(crate::specs::Cursor::rest))]
@@ -94,6 +97,37 @@ impl<'a> Cursor<'a> {
         ensures { result.now ≡ text_of self.now }
     {
         self.text
+    }
+
+    /// The text as it is written from the place of the next byte on.
+    #[tactic(auto, unfolding(crate::specs::Cursor::rest))]
+    pub fn ahead(&self) -> &'a [u8]
+        ensures { result.now ≡ ahead_of (text_of self.now) (rest self.now) }
+    {
+        &self.text[self.place..]
+    }
+
+    /// Passes the next `count` bytes, which have to show as they are written: none of the bytes ahead, as many, is a
+    /// backslash, CR or LF.
+    #[tactic(auto, unfolding(crate::specs::Cursor::rest))]
+    pub fn pass_plain(&mut self, count: usize)
+        requires within { count ≤ length (ahead_of (text_of self.old) (rest self.old)) }
+        requires plain { IsTrue (list_all shows_itself (take count (ahead_of (text_of self.old) (rest self.old)))) }
+        ensures text { text_of self.new ≡ text_of self.old }
+        ensures rest { rest self.new ≡ drop count (rest self.old) }
+        ensures written { bytes (take count (rest self.old)) ≡ take count (ahead_of (text_of self.old) (rest self.old)) }
+    {
+        if count == 0 {
+            return;
+        }
+        let end = self.place + count;
+        let (hidden, lines) = splices_len(&self.text[end..]);
+        *self = Cursor {
+            text: self.text,
+            place: end + hidden,
+            line: self.line + lines,
+            last: self.text[end - 1],
+        };
     }
 
     /// Passes the next byte.

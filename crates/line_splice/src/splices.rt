@@ -1,5 +1,6 @@
 ghost use Rattle.std.specs.Prelude.{◌≡◌, ◌+◌, ◌≤◌, ℕ, length, drop, IsFalse, MatchOption};
 ghost use Rattle.scan_model.specs.Spliced.{shown, mark_len};
+ghost use Rattle.line_splice.specs.Plain.{shows_itself};
 ghost use Rattle.line_splice.specs.Rest.{at_splice, newline_len, IsEnd, Shows};
 
 // How many bytes the newline takes that the text begins with, or 0.
@@ -38,12 +39,23 @@ pub fn splices_len(text: &[u8]) -> (usize, u32)
     (len, lines)
 }
 
+// Whether phase 2 leaves the byte as it is.
+fn shows_itself(byte: u8) -> bool
+    ensures { result ≡ shows_itself byte }
+{
+    !((byte == b'\\') | (byte == b'\r') | (byte == b'\n'))
+}
+
 // The byte that shows first, how many bytes of the text it takes, and how many lines it ends. The byte that showed
 // last tells whether a newline is to be added at the end.
 pub fn front(text: &[u8], last: u8) -> Option<(u8, usize, u32)>
     requires { IsFalse (at_splice text.now) }
     ensures { MatchOption result (IsEnd last text.now) (λ found. Shows last text.now found.0 found.1 found.2) }
 {
+    // Most bytes show as they are.
+    if text.len() > 0 && shows_itself(text[0]) {
+        return Some((text[0], 1, 0));
+    }
     let newline = newline_len(text);
     if newline > 0 {
         Some((b'\n', newline, 1))

@@ -43,3 +43,14 @@ fn texts_show_what_phase_2_leaves(rt: HostRuntime) -> Result<(), Fail> {
     shows(&rt, b"\r\\\n\n", &[(b'\r', 0, 1), (b'\n', 3, 2)], 2)?;
     shows(&rt, b"\n\\\n", &[(b'\n', 0, 1)], 1)
 }
+
+#[test]
+fn bytes_that_show_as_written_are_passed_at_once(rt: HostRuntime) -> Result<(), Fail> {
+    let mut at = Cursor::new(b"ab\\\nc");
+    assert_eq!(rt; at.ahead(), b"ab\\\nc".as_slice());
+    at.pass_plain(2);
+    assert_eq!(rt; at.ahead(), b"c".as_slice());
+    assert_eq!(rt; at.line(), 2);
+    assert_eq!(rt; at.peek(), Some(b'c'));
+    Ok(())
+}

@@ -9,3 +9,5 @@ pub mod OptionalLemmas
 pub mod ListLemmas
 pub mod SubstituteLemmas
 pub mod AloneLemmas
+pub mod OperandLemmas
+pub mod WrittenLemmas

@@ -3,3 +3,4 @@ pub mod Meaning
 pub mod Joins
 pub mod Calls
 pub mod Parens
+pub mod Written

@@ -14,10 +14,12 @@ mod parts;
 mod strings;
 mod substitute;
 mod token_tests;
+mod written;
 
 pub use alone::is_replaced;
 pub use marked::{Arg, Marked};
 pub use substitute::{substitute_function, substitute_object};
+pub use written::is_taken_as_written;
 
 #[cfg(test)]
 mod tests;

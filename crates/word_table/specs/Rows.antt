@@ -1,6 +1,6 @@
 -- The searches in a table of words.
-use Rattle.std.specs.Prelude.{ℕ, Bool, nat_eq, nat_le, if◌then◌else◌, List, [], ◌∷◌, map, length, Option, Some, None}
-use Rattle.std.specs.List.{starts_with}
+use Rattle.std.specs.Prelude.{ℕ, Bool, true, ◌==◌, nat_eq, nat_le, if◌then◌else◌, List, [], ◌∷◌, map, length, Option, Some, None}
+use Rattle.std.specs.List.{starts_with, filter}
 use lib.Pointwise.{pointwise}
 use Rattle.word_table.specs.declared.search.Row.{Row}
 
@@ -35,3 +35,16 @@ abbrev pub longest_row : List ℕ → List Entry → Option (ℕ × ℕ)
 longest_row text [] = None
 longest_row text (e ∷ es) = let later = longest_row text es in
     if starts_with nat_eq text e.0 then longer (Some (match_of e)) later else later
+
+-- the entry's word begins with the byte, or is empty
+abbrev pub starts_as : ℕ → List ℕ → Bool
+starts_as c [] = true
+starts_as c (d ∷ ds) = d == c
+
+abbrev pub begins_as : ℕ → Entry → Bool
+begins_as c e = starts_as c e.0
+
+-- of these entries those that begin with the byte, where it is one of the first bytes that are given
+abbrev pub rows_among : List Entry → List ℕ → ℕ → List Entry
+rows_among es [] c = []
+rows_among es (k ∷ ks) c = let later = rows_among es ks c in if c == k then filter (begins_as k) es else later

@@ -1,7 +1,7 @@
 -- The tables of the preprocessor.
 use Rattle.std.specs.Prelude.{ℕ, List, [], ◌∷◌, codes}
 use Prim.Native.String.{String}
-use Rattle.word_table.specs.Rows.{Entry}
+use Rattle.word_table.specs.Rows.{Entry, rows_among}
 
 abbrev pub row : String → ℕ → Entry
 row word value = (codes word, value)
@@ -24,6 +24,14 @@ punctuators =
     ∷ row "<=>" 40 ∷ row "&&" 41 ∷ row "||" 42 ∷ row "<<" 43 ∷ row ">>" 44 ∷ row "<<=" 45 ∷ row ">>=" 46 ∷ row "++" 47
     ∷ row "--" 48 ∷ row "," 49 ∷ row "#" 50 ∷ row "##" 51
     ∷ row "<:" 2 ∷ row ":>" 3 ∷ row "<%" 0 ∷ row "%>" 1 ∷ row "%:" 50 ∷ row "%:%:" 51 ∷ []
+
+-- the bytes that begin them
+abbrev pub firsts : List ℕ
+firsts = codes "{}[]();:.?-~!+*/%^&|=<>,#"
+
+-- the punctuators that begin with the byte
+abbrev pub rows_from : ℕ → List Entry
+rows_from c = rows_among punctuators firsts c
 
 -- the alternative words, with the numbers of the punctuators that they stand for ([lex.digraph])
 abbrev pub operator_words : List Entry

@@ -1,8 +1,8 @@
 ghost use Rattle.std.specs.Prelude.{◌≡◌};
 ghost use Rattle.std.specs.Option.{option_map};
 ghost use Rattle.std.specs.List.{find};
-ghost use Rattle.word_table.specs.Rows.{value_of, has_word, longest_row};
-ghost use Rattle.word_table.specs.Tables.{directive_words, operator_words, punctuators, attributes};
+ghost use Rattle.word_table.specs.Rows.{value_of, has_word, longest_row, entries};
+ghost use Rattle.word_table.specs.Tables.{directive_words, operator_words, punctuators, rows_from, attributes};
 
 use crate::{Row, find, longest};
 
@@ -30,17 +30,45 @@ pub fn directive_word(word: &[u8]) -> Option<u32>
 pub fn punctuator(text: &[u8]) -> Option<(u32, usize)>
     ensures { result ≡ longest_row text.now punctuators }
 {
-    const ROWS: [Row; 58] = rows![
-        b"{" => 0, b"}" => 1, b"[" => 2, b"]" => 3, b"(" => 4, b")" => 5, b";" => 6, b":" => 7,
-        b"..." => 8, b"?" => 9, b"::" => 10, b"." => 11, b".*" => 12, b"->" => 13, b"->*" => 14, b"~" => 15,
-        b"!" => 16, b"+" => 17, b"-" => 18, b"*" => 19, b"/" => 20, b"%" => 21, b"^" => 22, b"&" => 23,
-        b"|" => 24, b"=" => 25, b"+=" => 26, b"-=" => 27, b"*=" => 28, b"/=" => 29, b"%=" => 30, b"^=" => 31,
-        b"&=" => 32, b"|=" => 33, b"==" => 34, b"!=" => 35, b"<" => 36, b">" => 37, b"<=" => 38, b">=" => 39,
-        b"<=>" => 40, b"&&" => 41, b"||" => 42, b"<<" => 43, b">>" => 44, b"<<=" => 45, b">>=" => 46, b"++" => 47,
-        b"--" => 48, b"," => 49, b"#" => 50, b"##" => 51,
-        b"<:" => 2, b":>" => 3, b"<%" => 0, b"%>" => 1, b"%:" => 50, b"%:%:" => 51,
-    ];
-    longest(&ROWS, text)
+    if text.len() == 0 {
+        return None;
+    }
+    longest(rows_from(text[0]), text)
+}
+
+// The punctuators that begin with the byte, in the order of the whole table.
+fn rows_from(first: u8) -> &'static [Row]
+    ensures { entries result.now ≡ rows_from first }
+{
+    match first {
+        b'{' => &rows![b"{" => 0],
+        b'}' => &rows![b"}" => 1],
+        b'[' => &rows![b"[" => 2],
+        b']' => &rows![b"]" => 3],
+        b'(' => &rows![b"(" => 4],
+        b')' => &rows![b")" => 5],
+        b';' => &rows![b";" => 6],
+        b':' => &rows![b":" => 7, b"::" => 10, b":>" => 3],
+        b'.' => &rows![b"..." => 8, b"." => 11, b".*" => 12],
+        b'?' => &rows![b"?" => 9],
+        b'-' => &rows![b"->" => 13, b"->*" => 14, b"-" => 18, b"-=" => 27, b"--" => 48],
+        b'~' => &rows![b"~" => 15],
+        b'!' => &rows![b"!" => 16, b"!=" => 35],
+        b'+' => &rows![b"+" => 17, b"+=" => 26, b"++" => 47],
+        b'*' => &rows![b"*" => 19, b"*=" => 28],
+        b'/' => &rows![b"/" => 20, b"/=" => 29],
+        b'%' => &rows![b"%" => 21, b"%=" => 30, b"%>" => 1, b"%:" => 50, b"%:%:" => 51],
+        b'^' => &rows![b"^" => 22, b"^=" => 31],
+        b'&' => &rows![b"&" => 23, b"&=" => 32, b"&&" => 41],
+        b'|' => &rows![b"|" => 24, b"|=" => 33, b"||" => 42],
+        b'=' => &rows![b"=" => 25, b"==" => 34],
+        b'<' =>
+            &rows![b"<" => 36, b"<=" => 38, b"<=>" => 40, b"<<" => 43, b"<<=" => 45, b"<:" => 2, b"<%" => 0],
+        b'>' => &rows![b">" => 37, b">=" => 39, b">>" => 44, b">>=" => 46],
+        b',' => &rows![b"," => 49],
+        b'#' => &rows![b"#" => 50, b"##" => 51],
+        _ => &[],
+    }
 }
 
 /// The number of the punctuator that an alternative word stands for, as `punctuator` gives it ([lex.digraph]). None

@@ -1,8 +1,8 @@
-use Rattle.std.proofs.Common.{◌∙◌, ap, sym, not, ◌&&◌, nat_eq, Some}
+use Rattle.std.proofs.Common.{◌∙◌, ap, sym, not, ◌&&◌, nat_eq, Some, ◌≡◌, length, length-drop, drop, arith}
 use Rattle.line_splice.specs.Cursor.{rest}
 use Rattle.scan_model.specs.Spelling.{after_items}
 use Rattle.lexeme_reader.specs.Fronts.{line}
-use Rattle.lexeme_reader.proofs.AlongLemmas.{along_more, along_end, line-newline, line-none}
+use Rattle.lexeme_reader.proofs.AlongLemmas.{along_more, along_further, along_shorter, byte_at-positive, along_end, line-newline, line-none}
 use Rattle.lexeme_reader.proofs.QuotedLemmas.{items_close, items_more, items_end}
 use Rattle.lexeme_reader.proofs.quoted.pass_items.Goals as goal
 
@@ -20,12 +20,20 @@ returns-then-escaped-byte-clause-items c = let s = rest c.items.at in let i = c.
 
 pub items-preserved : goal.items-preserved
 items-preserved c = let s = rest c.items.at in let i = c.items.invariant in let q = c.args.quote in let e = c.items.escaped in
-    let here = sym c.peek.ensures.value ∙ c.in-Some.is in record {
-      same = c.advance.ensures.text ∙ i.same;
-      along = along_more (rest c.args.at.now) s (rest c.advance.new.self) c.in-Some.byte i.along here c.if-byte-eq10.false c.advance.ensures.rest;
-      items = ap (λ t. after_items q (not e && nat_eq c.in-Some.byte 92) (line t)) c.advance.ensures.rest
+    let here = sym c.peek.ensures.value ∙ c.in-Some.is in
+    let next = not e && nat_eq c.in-Some.byte 92 in record {
+      same = c.pass_inside.ensures.text ∙ c.advance.ensures.text ∙ i.same;
+      along = along_further (rest c.args.at.now) (rest c.advance.new.self) (rest c.pass_inside.new.at)
+          (along_more (rest c.args.at.now) s (rest c.advance.new.self) c.in-Some.byte i.along here c.if-byte-eq10.false c.advance.ensures.rest) c.pass_inside.ensures.along;
+      items = sym c.pass_inside.ensures.items ∙ ap (λ t. after_items q next (line t)) c.advance.ensures.rest
           ∙ sym (items_more q e s c.in-Some.byte here c.if-byte-eq10.false c.if-escaped-byte.false) ∙ i.items;
     }
+
+pub items-smaller : goal.items-smaller
+items-smaller c = let s = rest c.items.at in let b = rest c.advance.new.self in
+    let e : length b ≡ length (drop 1 s) = ap length c.advance.ensures.rest in
+    let some = byte_at-positive s c.in-Some.byte (sym c.peek.ensures.value ∙ c.in-Some.is) in
+    omega (arith, along_shorter b (rest c.pass_inside.new.at) c.pass_inside.ensures.along, e, some, length-drop 1 s)
 
 pub returns-clause-items : goal.returns-clause-items
 returns-clause-items c = let s = rest c.items.at in let i = c.items.invariant in

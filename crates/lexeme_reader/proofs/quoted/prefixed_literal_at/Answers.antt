@@ -6,7 +6,7 @@ use Rattle.lexeme_reader.specs.Fronts.{line}
 use Rattle.lexeme_reader.specs.Quotes.{IsOpening}
 use Rattle.lexeme_reader.proofs.AlongLemmas.{line-drop}
 use Rattle.lexeme_reader.proofs.QuotedLemmas.{encoding_len-le, opening_is}
-use Rattle.lexeme_reader.proofs.quoted.literal_at.Goals as goal
+use Rattle.lexeme_reader.proofs.quoted.prefixed_literal_at.Goals as goal
 
 pub returns : goal.returns
 returns c = let s = rest c.args.at.now in let p = encoding_len (line s) in

@@ -1,0 +1,11 @@
+-- Bytes that show as they are written.
+use Rattle.std.specs.Prelude.{ℕ, Bool, not, ◌||◌, ◌==◌, List, drop}
+use Rattle.scan_model.specs.Spliced.{Spot, place_at}
+
+-- neither a backslash nor in a newline, so that phase 2 leaves the byte as it is
+abbrev pub shows_itself : ℕ → Bool
+shows_itself c = not (c == 92 || c == 13 || c == 10)
+
+-- the text as it is written from the place of the next byte on
+abbrev pub ahead_of : List ℕ → List Spot → List ℕ
+ahead_of text spots = drop (place_at text spots) text
