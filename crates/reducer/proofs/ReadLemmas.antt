@@ -1,5 +1,5 @@
 -- A token that is read into the open line.
-use Rattle.std.proofs.Common.{◌≡◌, ℕ, ◌<◌, true, nat_lt, List, length, refl, ap, sym, ◌∙◌, subst, Some}
+use Rattle.std.proofs.Common.{◌≡◌, ℕ, true, nat_lt, List, length, ap, sym, ◌∙◌, subst, Some}
 use Rattle.std.proofs.lemmas.Bool.{ltb-true}
 use Rattle.scan_model.specs.declared.token.Tok.{Tok}
 use Rattle.scan_model.specs.Spliced.{Spot}

@@ -1,4 +1,4 @@
-use Rattle.std.proofs.Common.{◌≡◌, Bool, ◌&&◌, nat_lt, List, length, ◌∙◌, ap, sym}
+use Rattle.std.proofs.Common.{◌≡◌, Bool, ◌&&◌, nat_lt, List, ◌∙◌, ap, sym}
 use Rattle.line_splice.specs.Cursor.{text_of, rest}
 use Rattle.lexeme_reader.specs.Fronts.{line}
 use Rattle.scan_model.specs.declared.token.Kind.TheVariants.{Header}
