@@ -1,3 +1,4 @@
 pub mod ListLemmas
 pub mod CutLemmas
 pub mod MeaningLemmas
+pub mod PartLemmas
