@@ -10,3 +10,4 @@ pub mod ListLemmas
 pub mod SubstituteLemmas
 pub mod AloneLemmas
 pub mod OperandLemmas
+pub mod WrittenLemmas

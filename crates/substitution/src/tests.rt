@@ -3,7 +3,9 @@ ghost use Rattle.hide_sets.specs.Sets.{Sets};
 ghost use Rattle.substitution.specs.Meaning.{IsArg, AreMarked};
 ghost use Rattle.substitution.specs.Calls.{AreArgs};
 
-use crate::{Arg, Marked, is_replaced, substitute_function, substitute_object};
+use crate::{
+    Arg, Marked, is_replaced, is_taken_as_written, substitute_function, substitute_object,
+};
 use hide_sets::{HideSet, HideSets};
 use scan_model::{Bytes, FunctionDef, Items, Kind, NoMemory, Tok};
 use std::alloc::Global;
