@@ -1,2 +1,2 @@
 pub mod Stacks
-pub mod Lists
+pub mod Places

@@ -1,13 +1,14 @@
-ghost use Rattle.std.specs.Prelude.{◌≡◌, ◌<◌, ◌++◌, length, IfOk, IsTrue, ◌↔◌, [], ◌∷◌, OnOk, MatchOption, drop, slice_get, map, reverse};
+ghost use Rattle.std.specs.Prelude.{◌≡◌, ◌<◌, length, IfOk, IsTrue, ◌↔◌, [], ◌∷◌, OnOk, MatchOption, drop, slice_get};
 ghost use Rattle.std.specs.Option.{option_copied};
 ghost use Rattle.hide_sets.specs.Sets.{IsSet, hides_of, Extends};
 ghost use Rattle.substitution.specs.Meaning.{AreMarked};
 ghost use Rattle.list_stack.specs.Stacks.{is_called, PutsBefore, Opens, Cuts};
 
-use crate::copies::copy_list;
-use crate::cuts::cut_at_commas;
-use crate::parens::{Parens, take_parens};
-use crate::todo::Todo;
+use crate::copies::copy_marked;
+use crate::cuts::{close_of_first, commas, floor, with_places};
+use crate::entry::Entry;
+use crate::filling::{entries_of, put_on_top};
+use crate::token_tests::is_open_paren;
 use hide_sets::{HideSet, HideSets};
 use scan_model::{Items, NoMemory};
 use std::alloc::Global;
@@ -16,21 +17,29 @@ use substitution::Marked;
 
 /// Lists of tokens that are to be replaced, one inside the other: the first is at work, and each of the others is to be
 /// at work after the one before has ended. After an `Err` nothing is said of the stack.
+///
+/// A call costs what it takes or puts. `open` is in constant time, and `cut` in the number of the commas that it cuts at
+/// and of the `)` before them that nothing opened.
 #[derive(Drop)]
 pub struct ListStack {
     alloc: Global,
-    first: Todo,
-    /// The next list is the last.
-    others: Vec<Todo>,
+    /// The tokens of all lists: the next one is the last.
+    entries: Vec<Entry>,
+    /// The entry at which each list ends that has another behind it: the list at work has the last.
+    ends: Vec<usize>,
 }
 
 impl Model for ListStack {
-    ghost use Rattle.std.specs.Prelude.{reverse};
+    ghost use Rattle.std.specs.Prelude.{length, reverse};
     ghost use Rattle.list_stack.specs.Stacks.{Stack};
 
     ghost Value = { Stack };
 
-    ghost view = { λ s. record { first = s.first; others = reverse s.others.items } };
+    ghost use Rattle.list_stack.specs.Places.{AreStack, stack_of};
+
+    ghost view = { λ s. stack_of s.entries.items (reverse s.ends.items) };
+
+    ghost invariant = { λ s. AreStack s.entries.items (reverse s.ends.items) };
 }
 
 impl ListStack {
@@ -40,8 +49,8 @@ impl ListStack {
     {
         Ok(ListStack {
             alloc,
-            first: Todo::of_list(list),
-            others: Vec::new(alloc),
+            entries: entries_of(alloc, list)?,
+            ends: Vec::new(alloc),
         })
     }
 
@@ -49,35 +58,50 @@ impl ListStack {
     pub fn next(&mut self) -> Option<Marked>
         ensures { MatchOption result ((self.old.first ≡ []) × (self.new ≡ self.old)) (λ m. self.old ≡ record self.new { first = m ∷ self.new.first }) }
     {
-        self.first.next()
+        if self.entries.len() <= floor(self.ends.as_slice()) {
+            return None;
+        }
+        let Some(entry) = self.entries.pop() else {
+            return None;
+        };
+        Some(entry.marked)
     }
 
     /// The token at a place of the list at work, whose next token has 0.
     pub fn at(&self, place: usize) -> Option<&Marked>
         ensures { option_copied result ≡ slice_get self.now.first place }
     {
-        self.first.at(place)
+        let count = self.entries.len();
+        if place < count - floor(self.ends.as_slice()) {
+            Some(&self.entries[count - 1 - place].marked)
+        } else {
+            None
+        }
     }
 
     /// Takes this many tokens off the list at work, or all that it has.
     pub fn skip(&mut self, count: usize)
         ensures { self.new ≡ record self.old { first = drop count self.old.first } }
     {
-        self.first.skip(count);
+        let kept = self.entries.len().saturating_sub(count);
+        self.entries.truncate(kept.max(floor(self.ends.as_slice())));
     }
 
     /// Whether the list at work begins with a `(`.
     pub fn is_called(&self) -> bool
         ensures { result ≡ is_called self.now.first }
     {
-        self.first.is_called()
+        match self.at(0) {
+            Some(marked) => is_open_paren(&marked.tok),
+            None => false,
+        }
     }
 
     /// Whether the list at work has ended.
     pub fn is_empty_list(&self) -> bool
         ensures { IsTrue result ↔ (self.now.first ≡ []) }
     {
-        self.first.is_empty()
+        self.at(0).is_none()
     }
 
     /// Puts a list before the list at work, each token of which hides the added names too.
@@ -94,7 +118,7 @@ impl ListStack {
         ensures value { OnOk result (PutsBefore sets.old sets.new (hides_of sets.old added) list self.old.first self.new.first) }
         ensures others { OnOk result (self.new.others ≡ self.old.others) }
     {
-        self.first.put_before(sets, list, added)
+        put_on_top(&mut self.entries, sets, list, added)
     }
 
     /// Where the list at work begins with parentheses: what they enclose comes to be at work, and then what follows
@@ -103,13 +127,14 @@ impl ListStack {
     pub fn open(&mut self) -> Result<Option<HideSet>, NoMemory>
         ensures { IfOk result (Opens self.old self.new) }
     {
-        let Some(parens) = take_parens(self.alloc, &mut self.first)? else {
+        let floor = floor(self.ends.as_slice());
+        let Some(close) = close_of_first(self.entries.as_slice(), floor) else {
             return Ok(None);
         };
-        let Parens { inside, close } = parens;
-        let rest = std::mem::replace(&mut self.first, Todo::of_list(inside));
-        self.others.push(rest)?;
-        Ok(Some(close.hides))
+        let hides = self.entries[close].marked.hides;
+        self.ends.push(close)?;
+        self.entries.truncate(self.entries.len() - 1);
+        Ok(Some(hides))
     }
 
     /// Cuts the list at work at its first commas outside parentheses, at most this many. The answer is how many lists
@@ -117,14 +142,11 @@ impl ListStack {
     pub fn cut(&mut self, most: usize) -> Result<usize, NoMemory>
         ensures { IfOk result (Cuts most self.old self.new) }
     {
-        let empty = Todo::of_list(Vec::new(self.alloc));
-        let list = std::mem::replace(&mut self.first, empty);
-        let parts = cut_at_commas(self.alloc, most, list)?;
-        let count = parts.len();
-        push_lists(&mut self.others, parts)?;
-        if let Some(first) = self.others.pop() {
-            self.first = first;
-        }
+        let floor = floor(self.ends.as_slice());
+        let places = commas(self.alloc, self.entries.as_slice(), floor, most)?;
+        let count = places.len() + 1;
+        let ends = std::mem::replace(&mut self.ends, Vec::new(self.alloc));
+        self.ends = with_places(ends, places)?;
         Ok(count)
     }
 
@@ -134,8 +156,8 @@ impl ListStack {
         requires another { 0 < length self.old.others }
         ensures { self.old.others ≡ self.new.first ∷ self.new.others }
     {
-        if let Some(next) = self.others.pop() {
-            self.first = next;
+        if let Some(end) = self.ends.pop() {
+            self.entries.truncate(end);
         }
     }
 
@@ -145,26 +167,22 @@ impl ListStack {
         ensures list { IfOk result (λ list. list.items ≡ self.old.first) }
         ensures rest { OnOk result (self.old.others ≡ self.new.first ∷ self.new.others) }
     {
-        let empty = Todo::of_list(Vec::new(alloc));
-        let next = self.others.pop().unwrap_or(empty);
-        Ok(std::mem::replace(&mut self.first, next).into_list())
+        let mut list = Vec::new(alloc);
+        'list: while let Some(marked) = self.next() {
+            list.push(marked)?;
+        }
+        self.end_list();
+        Ok(list)
     }
 
     /// What is left of the list at work, in memory of its own.
     pub fn copy_list(&self, alloc: Global) -> Result<Vec<Marked>, NoMemory>
         ensures { IfOk result (λ list. list.items ≡ self.now.first) }
     {
-        self.first.copy(alloc)
+        let mut list = Vec::new(alloc);
+        'list: while let Some(marked) = self.at(list.len()) {
+            list.push(copy_marked(alloc, marked)?)?;
+        }
+        Ok(list)
     }
-}
-
-/// Puts lists before those that are to be at work.
-fn push_lists(others: &mut Vec<Todo>, parts: Vec<Vec<Marked>>) -> Result<(), NoMemory>
-    ensures { OnOk result (reverse others.new.items ≡ map (λ v. v.items) parts.items ++ reverse others.old.items) }
-{
-    let mut left = parts;
-    'left: while let Some(part) = left.pop() {
-        others.push(Todo::of_list(part))?;
-    }
-    Ok(())
 }
