@@ -1,0 +1,7 @@
+use Rattle.line_splice.specs.Cursor.{rest}
+use Rattle.pp_lexer.proofs.PassingLemmas.{quiet_left}
+use Rattle.pp_lexer.proofs.passing.pass_any.Goals as goal
+
+pub returns-then-at_quiet-clause-left : goal.returns-then-at_quiet-clause-left
+returns-then-at_quiet-clause-left c =
+    quiet_left c.args.at.now.text.now (rest c.args.at.now) (rest c.pass_mark.new.at) c.pass_mark.result (c.at_quiet.ensures c.if-at_quiet.true) c.pass_mark.ensures.lexeme
