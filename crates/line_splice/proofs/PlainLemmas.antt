@@ -6,6 +6,8 @@ use Rattle.std.specs.List.{list_all}
 use Rattle.scan_model.specs.Spliced.{Spot, shown, spliced, is_hidden, at_newline, place_at, last_line}
 use Rattle.scan_model.specs.Tokens.{bytes}
 use Rattle.line_splice.specs.Rest.{at_splice, rest_of, Shows}
+use Rattle.line_splice.specs.declared.cursor.Cursor.{Cursor}
+use Rattle.line_splice.specs.Cursor.{text_of, rest}
 use Rattle.line_splice.specs.Plain.{shows_itself, ahead_of}
 use Rattle.line_splice.proofs.ShownLemmas.{shown-before, front_byte, first_spot, place_is}
 
@@ -141,3 +143,10 @@ passed_ends text t last place line (suc n) hidden lines some r is same splice en
     let next = passed_plain text t last place line (suc n) hidden lines some r is same in
     let left = some_left text (place + suc n + hidden) (line + lines) c (passed_shows text t place (suc n) hidden is splice) c_plain in
     ap (last_line (line + lines)) next ∙ sym (last_line-drop (suc n) line (line + lines) (rest_of text place line last) (λ z. left (next ∙ z))) ∙ ends
+
+-- what a cursor shows of the bytes ahead
+pub written_ahead : (at : Cursor) (n : ℕ) → n ≤ length (ahead_of (text_of at) (rest at)) → list_all shows_itself (take n (ahead_of (text_of at) (rest at))) ≡ true
+    → bytes (take n (rest at)) ≡ take n (ahead_of (text_of at) (rest at))
+unfolding rest
+written_ahead at n within all = let text = at.text.now in
+    written_here text at.last at.place at.line n at.shows at.within (ready text at.last at.place at.line n at.shows at.within within all)

@@ -16,3 +16,4 @@ pub mod RawLemmas
 pub mod FoundLemmas
 pub mod WrittenLemmas
 pub mod PassingLemmas
+pub mod QuietLemmas
