@@ -12,3 +12,4 @@ pub mod FrontLemmas
 pub mod FlatLemmas
 pub mod OpenLemmas
 pub mod PlaceLemmas
+pub mod ReadLemmas

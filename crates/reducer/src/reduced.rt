@@ -109,8 +109,8 @@ impl Reduced {
         ensures utf8 { IsTrue (is_of Kind.Ident (view result)) → IsUtf8 result.text.now }
         ensures valid { AreReduced self.now }
     {
-        let line = self.lines[k as usize];
-        let tok = self.toks[line.start as usize + i as usize];
-        shown_token(&self.spelled, tok, line.line)
+        let of = self.lines[k as usize];
+        let tok = self.toks[of.start as usize + i as usize];
+        shown_token(&self.spelled, tok, of.line)
     }
 }

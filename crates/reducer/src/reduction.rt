@@ -2,6 +2,7 @@ ghost use Rattle.std.specs.Prelude.{◌≡◌, ◌≤◌, ◌-◌, ◌++◌, [],
 ghost use Rattle.std.specs.List.{filter};
 ghost use Rattle.line_splice.specs.Cursor.{text_of, rest};
 ghost use Rattle.scan_model.specs.Lines.{closed, is_directive, kept};
+ghost use Rattle.pp_lexer.specs.Brackets.{IsBare};
 ghost use Rattle.reducer.specs.Building.{kept_lines, open_toks, IsSound, HasLines};
 ghost use Rattle.reducer.specs.Directives.{IsPassed, kept_from};
 ghost use Rattle.reducer.specs.ReadToken.{ReadsToken};
@@ -12,7 +13,7 @@ use crate::fronts::begins_text;
 use crate::header_wanted::wants_header;
 use crate::open_lines::OpenLines;
 use line_splice::Cursor;
-use pp_lexer::{is_on_line, pass_blanks, pass_lexeme, pass_token};
+use pp_lexer::{is_on_line, pass_blanks, pass_next_lexeme, pass_token};
 use scan_model::NoMemory;
 use std::alloc::Global;
 
@@ -37,11 +38,18 @@ fn pass_newline(at: &mut Cursor<'_>)
 }
 
 // Reads the next token of the open line, and adds it. The answer is false exactly where a newline outside comments, or
-// the end, comes first; `at` then stands there.
-fn read_token(text: &[u8], at: &mut Cursor<'_>, lines: &mut OpenLines) -> Result<bool, NoMemory>
+// the end, comes first; `at` then stands there. Up to the place `bare_to` no `>` closes a header name.
+fn read_token(
+    text: &[u8],
+    at: &mut Cursor<'_>,
+    bare_to: &mut usize,
+    lines: &mut OpenLines,
+) -> Result<bool, NoMemory>
     requires text { text_of at.old ≡ text.now }
     requires sound { IsSound lines.old }
+    requires bare { IsBare bare_to.old text.now (rest at.old) }
     ensures text { text_of at.new ≡ text_of at.old }
+    ensures bare { OnOk result (IsBare bare_to.new text.now (rest at.new)) }
     ensures read { IfOk result (λ read. ReadsToken text.now lines.old (rest at.old) read lines.new (rest at.new)) }
 {
     let space = pass_blanks(at) | lines.is_empty();
@@ -49,7 +57,7 @@ fn read_token(text: &[u8], at: &mut Cursor<'_>, lines: &mut OpenLines) -> Result
         return Ok(false);
     }
     let from = *at;
-    let found = pass_lexeme(at, wants_header(lines));
+    let found = pass_next_lexeme(at, wants_header(lines), bare_to);
     lines.push(text, &from, found, at, space)?;
     Ok(true)
 }
@@ -78,7 +86,8 @@ fn read_line(text: &[u8], at: &mut Cursor<'_>, lines: &mut OpenLines) -> Result<
     ensures less { OnOk result (length (rest at.new) ≤ length (rest at.old) - 1) }
 {
     lines.drop_line();
-    'toks: while read_token(text, at, lines)? {
+    let mut bare_to = 0;
+    'toks: while read_token(text, at, &mut bare_to, lines)? {
         if is_text(lines) {
             pass_line(at);
             return Ok(());

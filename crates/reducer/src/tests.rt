@@ -350,6 +350,33 @@ fn header_names_hold_slashes(rt: HostRuntime) -> Result<(), Fail> {
 }
 
 #[test]
+fn header_names_may_lack_their_end(rt: HostRuntime) -> Result<(), Fail> {
+    let alloc = rt.alloc();
+    reduces(
+        &rt,
+        alloc,
+        b"#if __has_include(<a __has_include(<b\n",
+        &[kept(1, 2, b"#|if|__has_include|(|<|a|__has_include|(|<|b")],
+    )?;
+    reduces(
+        &rt,
+        alloc,
+        b"#if __has_include(<a __has_include(<b /*\n*/ __has_include(<c>)\n",
+        &[kept(
+            1,
+            3,
+            b"#|if|__has_include|(|<|a|__has_include|(|<|b|__has_include|(|<c>|)",
+        )],
+    )?;
+    reduces(
+        &rt,
+        alloc,
+        b"#if __has_include(<>) && __has_include(<a>)\n",
+        &[kept(1, 2, b"#|if|__has_include|(|<|>|)|&&|__has_include|(|<a>|)")],
+    )
+}
+
+#[test]
 fn an_answer_is_shared(rt: HostRuntime) -> Result<(), Fail> {
     let alloc = rt.alloc();
     let reduced = reduce(alloc, b"x\nimport a;\n").ok().ok_or("memory")?;

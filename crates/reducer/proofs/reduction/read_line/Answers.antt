@@ -43,6 +43,7 @@ toks-preserved c =
     record {
       same = c.read_token.ensures.text ∙ c.toks.invariant.same;
       sound = read.2.sound;
+      bare = c.in_ok-read_token.ensures.bare;
       lines = read.2.kept ∙ c.toks.invariant.lines;
       kept = c.toks.invariant.kept ∙ read_turn text c.toks.lines after (rest c.toks.at) (rest c.read_token.new.at) read;
       less = omega (arith, less, c.toks.invariant.less);

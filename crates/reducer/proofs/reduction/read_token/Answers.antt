@@ -1,13 +1,17 @@
-use Rattle.std.proofs.Common.{◌≡◌, ◌∙◌, ap, sym, refl, ◌||◌, nat_lt, length}
-use Rattle.std.proofs.lemmas.Bool.{ltb-true}
+use Rattle.std.proofs.Common.{◌≡◌, ◌∙◌, ap, sym, refl, ◌||◌, nat_lt, length, subst}
 use Rattle.line_splice.specs.Cursor.{rest, text_of}
 use Rattle.scan_model.specs.Spliced.{line_at}
-use Rattle.scan_model.specs.Tokens.{lexeme, after_blanks}
+use Rattle.scan_model.specs.Tokens.{after_blanks}
+use Rattle.pp_lexer.specs.Brackets.{IsBare}
 use Rattle.pp_lexer.specs.Lexemes.{spelling_of}
 use Rattle.pp_lexer.specs.Reads.{line_here}
-use Rattle.pp_lexer.proofs.TokenLemmas.{token_some, token_none, tok_is}
+use Rattle.pp_lexer.proofs.TokenLemmas.{token_none, tok_is}
 use Rattle.reducer.specs.Building.{open_toks}
+use Rattle.reducer.proofs.ReadLemmas.{token_read, bare_blanks, bare_left}
 use Rattle.reducer.proofs.reduction.read_token.Goals as goal
+
+pub returns-then-not-is_on_line-clause-bare : goal.returns-then-not-is_on_line-clause-bare
+returns-then-not-is_on_line-clause-bare c = bare_blanks c.args.bare_to.now c.args.text.now (rest c.args.at.now) (rest c.pass_blanks.new.at) c.pass_blanks.ensures.rest c.requires.bare
 
 pub returns-then-not-is_on_line-clause-read : goal.returns-then-not-is_on_line-clause-read
 returns-then-not-is_on_line-clause-read c =
@@ -16,23 +20,43 @@ returns-then-not-is_on_line-clause-read c =
     let blanks = c.pass_blanks.ensures.rest in
     ((token_none c.args.text.now before (rest c.args.at.now) at blanks (sym c.is_on_line.ensures ∙ c.if-not-is_on_line.true), blanks), refl, c.requires.sound)
 
+pub pass_next_lexeme-found-requires-clause-bare : goal.pass_next_lexeme-found-requires-clause-bare
+pass_next_lexeme-found-requires-clause-bare c =
+    let at = rest c.pass_blanks.new.at in
+    let whole : text_of c.pass_blanks.new.at ≡ c.args.text.now = c.pass_blanks.ensures.text ∙ c.requires.text in
+    subst (λ t. IsBare c.args.bare_to.now t at) (sym whole) (bare_blanks c.args.bare_to.now c.args.text.now (rest c.args.at.now) at c.pass_blanks.ensures.rest c.requires.bare)
+
+pub returns-clause-bare : goal.returns-clause-bare
+returns-clause-bare c =
+    let s = rest c.args.at.now in
+    let at = rest c.pass_blanks.new.at in
+    let text = c.args.text.now in
+    let before = open_toks c.args.lines.now in
+    let found = c.pass_next_lexeme-found.result in
+    let left = rest c.pass_next_lexeme-found.new.at in
+    let text' = text_of c.pass_blanks.new.at in
+    let whole : text' ≡ text = c.pass_blanks.ensures.text ∙ c.requires.text in
+    let blanks = c.pass_blanks.ensures.rest in
+    let token = token_read text text' before s at left found whole blanks (sym c.is_on_line.ensures ∙ c.if-not-is_on_line.false) (c.pass_next_lexeme-found.ensures.lexeme before (sym c.wants_header.ensures)) in
+    bare_left c.pass_next_lexeme-found.new.bare_to text text' before s at left found whole blanks token c.pass_next_lexeme-found.ensures.bare
+
 pub returns-clause-read : goal.returns-clause-read
 returns-clause-read c =
     let s = rest c.args.at.now in
     let at = rest c.pass_blanks.new.at in
     let text = c.args.text.now in
     let before = open_toks c.args.lines.now in
-    let found = c.pass_lexeme-found.result in
-    let left = rest c.pass_lexeme-found.new.at in
+    let found = c.pass_next_lexeme-found.result in
+    let left = rest c.pass_next_lexeme-found.new.at in
     let bytes = spelling_of text found.spelling at left in
-    let whole : text_of c.pass_blanks.new.at ≡ text = c.pass_blanks.ensures.text ∙ c.requires.text in (
+    let text' = text_of c.pass_blanks.new.at in
+    let whole : text' ≡ text = c.pass_blanks.ensures.text ∙ c.requires.text in
+    let blanks = c.pass_blanks.ensures.rest in (
       _,
       (
         record { kind = found.kind; text = bytes; left = left },
-        token_some text before s at _ c.pass_blanks.ensures.rest (ltb-true 0 _ (sym c.is_on_line.ensures ∙ c.if-not-is_on_line.false))
-            (ap (λ t. lexeme t before at) (sym whole) ∙ c.pass_lexeme-found.ensures.lexeme before (sym c.wants_header.ensures)
-            ∙ ap (λ t. record { kind = found.kind; text = spelling_of t found.spelling at left; left = left }) whole),
-        tok_is text before s at left found.kind bytes _ (line_here before (line_at text at)) c.pass_blanks.ensures.rest
+        token_read text text' before s at left found whole blanks (sym c.is_on_line.ensures ∙ c.if-not-is_on_line.false) (c.pass_next_lexeme-found.ensures.lexeme before (sym c.wants_header.ensures)),
+        tok_is text before s at left found.kind bytes _ (line_here before (line_at text at)) blanks
             (ap (λ b. b || c.is_empty.result) c.pass_blanks.ensures.passed ∙ ap (λ b. nat_lt (length (after_blanks s)) (length s) || b) c.is_empty.ensures) refl,
         refl,
       ),

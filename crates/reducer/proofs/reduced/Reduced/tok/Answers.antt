@@ -9,8 +9,8 @@ pub returns-clause-utf8 : goal.returns-clause-utf8
 returns-clause-utf8 c =
     let r = c.self.inside in
     let shown = view c.shown_token.result in
-    let here = tok_at r.spelled.items r.toks.items r.lines.items c.args.k c.args.i c.index-line.result.now c.index-tok.result.now shown
+    let here = tok_at r.spelled.items r.toks.items r.lines.items c.args.k c.args.i c.index-of.result.now c.index-tok.result.now shown
     (subst (λ ls. c.args.k < length ls) (sym c.self.view_is) c.requires.line) (subst (λ ls. c.args.i < length (toks_of ls c.args.k)) (sym c.self.view_is) c.requires.tok)
-    c.index-line.ensures c.index-tok.ensures
-    (c.shown_token.ensures ∙ ap (λ xs. tok_of xs c.index-line.result.now.line c.index-tok.result.now) c.deref.ensures.value) in
+    c.index-of.ensures c.index-tok.ensures
+    (c.shown_token.ensures ∙ ap (λ xs. tok_of xs c.index-of.result.now.line c.index-tok.result.now) c.deref.ensures.value) in
     utf8_at _ c.args.k c.args.i shown c.self.invariant.reduced here
