@@ -22,11 +22,13 @@ found_at test depth (m ∷ ms) =
     let further = found_at test (depth_after m.tok depth) ms in
     if depth == 0 && test m.tok then Some (length ms) else further
 
+-- the places of the first `)`, and of the first `,` or `)`
 abbrev pub places_of : ℕ → List Marked → Places
 places_of depth ms = record { close = found_at is_close_paren depth ms; stop = found_at is_stop depth ms }
 
 -- ## Entries: the next token is the last
 
+-- the tokens, the next one first
 abbrev pub tokens : List Entry → List Marked
 tokens entries = reverse (map (λ e. e.marked) entries)
 
@@ -72,6 +74,7 @@ lists_below entries (end ∷ ends) = part (floor ends) end entries ∷ lists_bel
 abbrev pub stack_of : List Entry → List ℕ → Stack
 stack_of entries ends = record { first = part (floor ends) (length entries) entries; others = lists_below entries ends }
 
+-- the entries know their places, and the lists end among them
 pub record AreStack (entries : List Entry) (ends : List ℕ) : Type 0 where
   pub linked : AreLinked entries
   pub above : AreEnds (length entries) ends
@@ -85,6 +88,7 @@ pub record ClosesAt (from : ℕ) (entries : List Entry) (close : ℕ) : Type 0 w
   pub parens : (d : Entry) → in_parens (λ m. m.tok) (part from (length entries) entries)
       ≡ Some (record { inside = part (close + 1) (length entries - 1) entries; close = (slice_index_or entries close d).marked; after = part from close entries })
 
+-- the place of that `)`; none where no parentheses come first
 abbrev pub Closes : ℕ → List Entry → Option ℕ → Type 0
 Closes from entries None = in_parens (λ m. m.tok) (part from (length entries) entries) ≡ None
 Closes from entries (Some close) = ClosesAt from entries close
@@ -95,6 +99,7 @@ pub record CommaAt (from end : ℕ) (entries : List Entry) (comma : ℕ) : Type 
   pub below : comma < end
   pub cuts : (k : ℕ) → cut_lists (suc k) 0 (part from end entries) ≡ part (comma + 1) end entries ∷ cut_lists k 0 (part from comma entries)
 
+-- that comma's place; none where the list isn't cut, however often it may be
 abbrev pub HasComma : ℕ → ℕ → List Entry → Option ℕ → Type 0
 HasComma from end entries None = (k : ℕ) → cut_lists k 0 (part from end entries) ≡ part from end entries ∷ []
 HasComma from end entries (Some comma) = CommaAt from end entries comma

@@ -12,3 +12,6 @@ mod stack;
 mod token_tests;
 
 pub use stack::ListStack;
+
+#[cfg(test)]
+mod tests;

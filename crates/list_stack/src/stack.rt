@@ -104,6 +104,13 @@ impl ListStack {
         self.at(0).is_none()
     }
 
+    /// Whether no list follows the list at work.
+    pub fn is_last_list(&self) -> bool
+        ensures { IsTrue result ↔ (length self.now.others ≡ 0) }
+    {
+        self.ends.is_empty()
+    }
+
     /// Puts a list before the list at work, each token of which hides the added names too.
     pub fn put_before(
         &mut self,
