@@ -52,7 +52,7 @@ fn cut_plain(todo: &mut ListStack, count: usize) -> Result<Option<usize>, NoMemo
     Ok(None)
 }
 
-/// The same, and then the variable part, whose comma may be missing: no more commas than there are parameters cut.
+/// The same, and then the variable part, whose comma may be missing; its own commas cut nothing.
 fn cut_variadic(todo: &mut ListStack, count: usize) -> Result<Option<usize>, NoMemory>
     ensures { IfOk result (CutsInto (variadic_args count) (count + 1) todo.old todo.new) }
 {
