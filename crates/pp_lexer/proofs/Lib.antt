@@ -17,3 +17,4 @@ pub mod FoundLemmas
 pub mod WrittenLemmas
 pub mod PassingLemmas
 pub mod QuietLemmas
+pub mod AloneLemmas

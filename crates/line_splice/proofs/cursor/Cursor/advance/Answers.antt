@@ -1,8 +1,8 @@
-use Rattle.std.proofs.Common.{◌≡◌, ap, sym, ◌∙◌, subst, drop}
+use Rattle.std.proofs.Common.{subst}
 use Rattle.std.proofs.lemmas.List.{take_rest}
 use Rattle.line_splice.specs.Cursor.{rest}
 use Rattle.line_splice.specs.Plain.{BeginsPlain}
-use Rattle.line_splice.proofs.PlainLemmas.{PassesOne, passes_one, one_ends}
+use Rattle.line_splice.proofs.PlainLemmas.{passes_one, one_ends}
 use Rattle.line_splice.proofs.cursor.Cursor.advance.Goals as goal
 
 pub invariant_of-self-clause-shows : goal.invariant_of-self-clause-shows
