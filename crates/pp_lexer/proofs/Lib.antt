@@ -18,3 +18,4 @@ pub mod WrittenLemmas
 pub mod PassingLemmas
 pub mod QuietLemmas
 pub mod BracketLemmas
+pub mod AloneLemmas

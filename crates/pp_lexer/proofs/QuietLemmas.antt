@@ -1,20 +1,16 @@
 -- Bytes with which neither a name, a number nor a literal begins.
-use Rattle.std.proofs.Common.{◌≡◌, ℕ, zero, suc, ◌<◌, Bool, true, false, not, cond, ◌==◌, ◌&&◌, ◌||◌, nat_lt, nat_le, List, [], ◌∷◌, refl, ap, sym, ◌∙◌, inl, inr, take, length, slice_index, Some, arith}
-use Rattle.std.proofs.lemmas.Bool.{and_parts, and_left, or_parts, or_from, not-true, ne_eqb, ltb-true, lt-leb, cases_eq, cases_Bool, false≢true}
+use Rattle.std.proofs.Common.{◌≡◌, ℕ, ◌<◌, true, false, not, ◌==◌, ◌||◌, nat_lt, List, refl, ap, sym, ◌∙◌, inl, inr, take, slice_index, Some, arith}
+use Rattle.std.proofs.lemmas.Bool.{and_parts, and_left, or_parts, or_from, not-true, ne_eqb, ltb-true, lt-leb, cases_eq, false≢true}
 use Rattle.std.specs.Char.{is_ascii_digit, is_ascii_alphabetic}
-use Rattle.scan_model.specs.declared.token.Tok.{Tok}
 use Rattle.scan_model.specs.Spliced.{Spot, byte_at}
-use Rattle.scan_model.specs.Spelling.{first, is_start, is_name, is_number, encoding_len, opens, opens_raw, longest}
-use Rattle.scan_model.specs.Tokens.{bytes, lexeme}
+use Rattle.scan_model.specs.Spelling.{first, is_start, is_name, is_number, encoding_len, longest}
 use Rattle.scan_model.proofs.LongestLemmas.{longest_passes}
 use Rattle.lexeme_reader.specs.Fronts.{line}
-use Rattle.lexeme_reader.specs.Quotes.{encoding_of}
 use Rattle.lexeme_reader.proofs.AlongLemmas.{line-cons, line-newline}
 use Rattle.lexeme_reader.proofs.QuotedLemmas.{encoding_len-bytes}
-use Rattle.pp_lexer.specs.Reads.{is_quiet, StandsQuiet, unquoted}
+use Rattle.pp_lexer.specs.Reads.{is_quiet, StandsQuiet}
 use Rattle.pp_lexer.proofs.ChoiceLemmas.{first-take, front_name}
 use Rattle.pp_lexer.proofs.ClassLemmas.{begins_word, begins_digits, number_first}
-use Rattle.pp_lexer.proofs.RuleLemmas.{other_rule, unquoted_closed}
 
 record Quiet (c : ℕ) : Type 0 where
   small : nat_lt c 128 ≡ true
@@ -68,17 +64,35 @@ no_numbers s q = elim (cases_eq (longest is_number s) 0) [
 no_letter : (c k : ℕ) → Quiet c → is_ascii_alphabetic k ≡ true → (c == k) ≡ false
 no_letter c k q letter = ne_eqb c k (λ e. false≢true (sym q.letter ∙ ap is_ascii_alphabetic e ∙ letter))
 
-no_prefix : (s : List ℕ) → Quiet (first s) → encoding_len s ≡ 0
-no_prefix s q = encoding_len-bytes s ∙ rw (no_letter (first s) 117 q refl, no_letter (first s) 85 q refl, no_letter (first s) 76 q refl) refl
+-- the first byte opens no literal
+pub record OpensNone (c : ℕ) : Type 0 where
+  pub no_lower_u : (c == 117) ≡ false
+  pub no_upper_u : (c == 85) ≡ false
+  pub no_upper_l : (c == 76) ≡ false
+  pub no_upper_r : (c == 82) ≡ false
+  pub single : (c == 39) ≡ false
+  pub double : (c == 34) ≡ false
+
+pub stands_by : (s : List ℕ) → OpensNone (first s) → longest is_name s ≡ 0 → longest is_number s ≡ 0 → StandsQuiet s
+stands_by s o names numbers =
+    let none : encoding_len s ≡ 0 = encoding_len-bytes s ∙ rw (o.no_lower_u, o.no_upper_u, o.no_upper_l) refl in record {
+      single = ap (λ k. slice_index s k == 39) none ∙ o.single;
+      double = ap (λ k. slice_index s k == 34) none ∙ o.double;
+      raw = and_left _ _ (ap (λ k. slice_index s k == 82) none ∙ o.no_upper_r);
+      names = names;
+      numbers = numbers;
+    }
 
 pub quiet_stands : (s : List ℕ) → is_quiet (first s) ≡ true → StandsQuiet s
-quiet_stands s h = let q = quiet (first s) h in let none = no_prefix s q in record {
-  single = ap (λ k. slice_index s k == 39) none ∙ q.single;
-  double = ap (λ k. slice_index s k == 34) none ∙ q.double;
-  raw = and_left _ _ (ap (λ k. slice_index s k == 82) none ∙ no_letter (first s) 82 q refl);
-  names = no_names s q;
-  numbers = no_numbers s q;
-}
+quiet_stands s h = let q = quiet (first s) h in
+    stands_by s (record {
+      no_lower_u = no_letter (first s) 117 q refl;
+      no_upper_u = no_letter (first s) 85 q refl;
+      no_upper_l = no_letter (first s) 76 q refl;
+      no_upper_r = no_letter (first s) 82 q refl;
+      single = q.single;
+      double = q.double;
+    }) (no_names s q) (no_numbers s q)
 
 -- the byte that stands at a cursor
 pub quiet_here : (spots : List Spot) (c : ℕ) → byte_at spots ≡ Some c → is_quiet c ≡ true → StandsQuiet (line spots)

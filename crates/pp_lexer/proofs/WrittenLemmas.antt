@@ -1,12 +1,12 @@
 -- Bytes that show as they are written.
-use Rattle.std.proofs.Common.{◌≡◌, ℕ, zero, suc, ◌+◌, ◌-◌, ◌<◌, ◌≤◌, true, false, ◌==◌, ◌||◌, List, [], ◌∷◌, refl, ap, sym, subst, ◌∙◌, inl, inr, take, drop, length, length-drop, arith}
-use Rattle.std.proofs.lemmas.Bool.{and_parts, or_parts, or_from, and_left, and_right, not-true, cases_order}
+use Rattle.std.proofs.Common.{◌≡◌, ℕ, zero, suc, ◌+◌, ◌-◌, ◌<◌, ◌≤◌, true, List, [], ◌∷◌, refl, ap, sym, subst, ◌∙◌, inl, inr, take, drop, length, length-drop, arith}
+use Rattle.std.proofs.lemmas.Bool.{and_parts, cases_order}
 use Rattle.std.specs.List.{list_all}
 use Rattle.line_splice.specs.declared.cursor.Cursor.{Cursor}
 use Rattle.line_splice.specs.Cursor.{text_of, rest}
 use Rattle.line_splice.proofs.PlainLemmas.{plain, not_newline, not_hidden}
 use Rattle.line_splice.proofs.ShownLemmas.{place_is}
-use Rattle.scan_model.specs.Spliced.{Spot, shown, is_hidden, at_newline, place_at}
+use Rattle.scan_model.specs.Spliced.{Spot, shown, place_at}
 use Rattle.scan_model.specs.Tokens.{bytes}
 use Rattle.pp_lexer.specs.Reads.{passed, IsAhead, shows_itself}
 use Rattle.pp_lexer.proofs.PlaceLemmas.{Rises, shown_rises, above, place_later}

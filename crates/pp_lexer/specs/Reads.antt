@@ -78,3 +78,8 @@ pub record StandsQuiet (s : List ℕ) : Type 0 where
   pub raw : opens_raw s ≡ false
   pub names : longest is_name s ≡ 0
   pub numbers : longest is_number s ≡ 0
+
+-- a byte that is a token by itself, whatever follows: a bracket, `;`, `,`, `?`, `~`, or one that no token but a stray one has
+abbrev pub is_alone : ℕ → Bool
+is_alone c = nat_lt c 128
+    && ((c == 123 || c == 125 || c == 91 || c == 93 || c == 40 || c == 41) || (c == 59 || c == 44 || c == 63 || c == 126) || (nat_lt c 32 || c == 64 || c == 96 || c == 92 || c == 127))

@@ -4,6 +4,7 @@ ghost use Rattle.lexeme_reader.specs.Fronts.{line};
 ghost use Rattle.scan_model.specs.Tokens.{lexeme};
 ghost use Rattle.pp_lexer.specs.Reads.{PassesToken};
 
+use crate::alone::at_alone;
 use crate::blanks::pass_blanks;
 use crate::lexeme::pass_lexeme;
 use crate::tokens::is_on_line;
@@ -31,7 +32,9 @@ fn pass_any(at: &mut Cursor<'_>)
     ensures text { text_of at.new ≡ text_of at.old }
     ensures left { rest at.new ≡ (lexeme (text_of at.old) [] (rest at.old)).left }
 {
-    if at_quiet(at) {
+    if at_alone(at) {
+        at.advance();
+    } else if at_quiet(at) {
         pass_mark(at);
     } else {
         pass_lexeme(at, false);

@@ -1,8 +1,8 @@
-use Rattle.std.proofs.Common.{◌∙◌, ap, sym, length, length-drop, arith}
+use Rattle.std.proofs.Common.{◌∙◌, ap, sym}
 use Rattle.std.proofs.lemmas.Bool.{false≢true}
 use Rattle.line_splice.specs.Cursor.{rest}
 use Rattle.scan_model.specs.Tokens.{after_comment}
-use Rattle.pp_lexer.proofs.CommentLemmas.{comment_run, comment_step, run_shorter}
+use Rattle.pp_lexer.proofs.CommentLemmas.{comment_run, comment_step}
 use Rattle.pp_lexer.proofs.blanks.pass_comment.Goals as goal
 
 pub comment-preserved : goal.comment-preserved

@@ -1,7 +1,7 @@
-use Rattle.std.proofs.Common.{◌∙◌, ap, sym, arith}
+use Rattle.std.proofs.Common.{◌∙◌, ap, sym}
 use Rattle.line_splice.specs.Cursor.{rest}
 use Rattle.scan_model.specs.Tokens.{from_newline}
-use Rattle.pp_lexer.proofs.CommentLemmas.{line_run, line_step, run_shorter}
+use Rattle.pp_lexer.proofs.CommentLemmas.{line_run, line_step}
 use Rattle.pp_lexer.proofs.blanks.pass_line.Goals as goal
 
 pub loop-byte-preserved : goal.loop-byte-preserved

@@ -1,5 +1,4 @@
 use Rattle.std.proofs.Common.{◌≤◌, length, arith}
-use Rattle.line_splice.specs.Cursor.{rest}
 use Rattle.pp_lexer.proofs.MarkLemmas.{four_show, line_ahead_written}
 use Rattle.pp_lexer.proofs.marks.written_four.Goals as goal
 

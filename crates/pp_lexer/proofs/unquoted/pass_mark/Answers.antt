@@ -1,14 +1,12 @@
 use Rattle.std.proofs.Common.{◌≡◌, ◌≤◌, ◌∙◌, ap, sym, length, arith}
 use Rattle.line_splice.specs.Cursor.{rest}
 use Rattle.lexeme_reader.specs.Fronts.{line, character_len}
-use Rattle.scan_model.specs.declared.token.Kind.TheVariants.{Number, Punct, Stray}
-use Rattle.scan_model.specs.Spelling.{is_name, is_number, longest}
+use Rattle.scan_model.specs.declared.token.Kind.TheVariants.{Punct, Stray}
 use Rattle.scan_model.specs.Tokens.{cut}
-use Rattle.scan_model.proofs.LongestLemmas.{longest_le}
 use Rattle.pp_lexer.specs.Reads.{mark_len, unquoted}
 use Rattle.pp_lexer.proofs.ChoiceLemmas.{Unquoted}
 use Rattle.pp_lexer.proofs.MarkLemmas.{mark_le}
-use Rattle.pp_lexer.proofs.UnquotedLemmas.{line_ahead, shown_cut, name_chosen, number_chosen, mark_chosen, stray_chosen, character_le, tested_some, tested_none}
+use Rattle.pp_lexer.proofs.UnquotedLemmas.{line_ahead, shown_cut, mark_chosen, stray_chosen, character_le}
 use Rattle.pp_lexer.proofs.unquoted.pass_mark.Goals as goal
 
 pub returns-then-len-gt0-clause-ahead : goal.returns-then-len-gt0-clause-ahead

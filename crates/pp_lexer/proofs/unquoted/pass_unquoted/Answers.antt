@@ -1,14 +1,13 @@
-use Rattle.std.proofs.Common.{◌≡◌, ◌≤◌, ◌∙◌, ap, sym, length, arith}
+use Rattle.std.proofs.Common.{◌∙◌, ap, sym}
 use Rattle.line_splice.specs.Cursor.{rest}
-use Rattle.lexeme_reader.specs.Fronts.{line, character_len}
-use Rattle.scan_model.specs.declared.token.Kind.TheVariants.{Number, Punct, Stray}
+use Rattle.lexeme_reader.specs.Fronts.{line}
+use Rattle.scan_model.specs.declared.token.Kind.TheVariants.{Number}
 use Rattle.scan_model.specs.Spelling.{is_name, is_number, longest}
 use Rattle.scan_model.specs.Tokens.{cut}
 use Rattle.scan_model.proofs.LongestLemmas.{longest_le}
-use Rattle.pp_lexer.specs.Reads.{mark_len, unquoted}
+use Rattle.pp_lexer.specs.Reads.{unquoted}
 use Rattle.pp_lexer.proofs.ChoiceLemmas.{Unquoted}
-use Rattle.pp_lexer.proofs.MarkLemmas.{mark_le}
-use Rattle.pp_lexer.proofs.UnquotedLemmas.{line_ahead, shown_cut, name_chosen, number_chosen, mark_chosen, stray_chosen, character_le, tested_some, tested_none}
+use Rattle.pp_lexer.proofs.UnquotedLemmas.{line_ahead, shown_cut, name_chosen, number_chosen, tested_some, tested_none}
 use Rattle.pp_lexer.proofs.unquoted.pass_unquoted.Goals as goal
 
 pub pass_word-requires : goal.pass_word-requires
