@@ -30,7 +30,7 @@ fn line_here(before: &[Tok], line: u32) -> u32
     }
 }
 
-// Whether a byte other than a newline stands here.
+/// Whether a byte other than a newline stands here.
 pub fn is_on_line(at: &Cursor<'_>) -> bool
     ensures { result ≡ nat_lt 0 (length (line (rest at.now))) }
 {

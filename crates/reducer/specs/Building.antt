@@ -5,9 +5,11 @@ use Rattle.scan_model.specs.declared.token.Line.{Line}
 use Rattle.reducer.specs.declared.open_lines.OpenLines.{OpenLines}
 use Rattle.reducer.specs.FlatLines.{tok_of, lines_of, IsCut, AreWithin}
 
+-- the lines that have ended: what is cut out of the kept fronts of the lists
 unfoldable pub kept_lines : OpenLines → List Line
 kept_lines b = lines_of (take b.kept_bytes b.spelled.items) (take b.kept_toks b.toks.items) b.lines.items
 
+-- the tokens of the open line: those behind the kept ones
 unfoldable pub open_toks : OpenLines → List Tok
 open_toks b = map (tok_of b.spelled.items b.line) (drop b.kept_toks b.toks.items)
 

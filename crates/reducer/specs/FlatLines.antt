@@ -15,6 +15,7 @@ abbrev pub line_of : List ℕ → List TokRecord → LineRecord → Line
 line_of spelled toks l =
     record { toks = map (tok_of spelled l.line) (take l.count (drop l.start toks)); line = l.line; next = l.next }
 
+-- the lines of the records
 abbrev pub lines_of : List ℕ → List TokRecord → List LineRecord → List Line
 lines_of spelled toks lines = map (line_of spelled toks) lines
 

@@ -42,7 +42,9 @@ pub fn shown_token<'a>(spelled: &'a [u8], tok: TokRecord, line: u32) -> TokView<
     }
 }
 
-// Places are kept in four bytes each: a list that is too long for them is want of memory.
+/// A place in a list, in the four bytes in which places are kept. `Err` is want of memory, and comes where the list is too
+/// long for them. The lists of a text of 32 MiB are shorter, as no token is spelled by more bytes than it takes of the
+/// text; that isn't proved.
 pub fn as_u32(n: usize) -> Result<u32, NoMemory>
     ensures { IfOk result (λ m. m ≡ n) }
 {
@@ -53,7 +55,8 @@ pub fn as_u32(n: usize) -> Result<u32, NoMemory>
     }
 }
 
-/// Adds the spelling of the token that was found between the two cursors over the text. The answer is where it lies.
+/// Adds the spelling of the token that was found between the two cursors over the text. The answer is where it
+/// begins and how many bytes it has. `Err` is want of memory.
 pub fn push_cut(
     spelled: &mut Vec<u8>,
     text: &[u8],
@@ -74,6 +77,7 @@ pub fn push_cut(
     Ok((as_u32(start)?, as_u32(len)?))
 }
 
+/// Adds a token at the end. `Err` is want of memory.
 pub fn push_tok(toks: &mut Vec<TokRecord>, tok: TokRecord) -> Result<(), NoMemory>
     ensures { OnOk result (toks.new.items ≡ toks.old.items ++ tok ∷ []) }
 {
@@ -83,6 +87,7 @@ pub fn push_tok(toks: &mut Vec<TokRecord>, tok: TokRecord) -> Result<(), NoMemor
     }
 }
 
+/// Adds a line at the end. `Err` is want of memory.
 pub fn push_line(lines: &mut Vec<LineRecord>, line: LineRecord) -> Result<(), NoMemory>
     ensures { OnOk result (lines.new.items ≡ lines.old.items ++ line ∷ []) }
 {

@@ -36,6 +36,7 @@ fn line_after(is_first: bool, here: u32, line: u32) -> u32
 }
 
 impl OpenLines {
+    /// No lines, and no tokens of an open one.
     pub fn new(alloc: Global) -> OpenLines
         ensures sound { IsSound result }
         ensures kept { kept_lines result ≡ [] }
@@ -79,7 +80,7 @@ impl OpenLines {
         }
     }
 
-    /// Adds the token that was found between the two cursors to the open line.
+    /// Adds the token that was found between the two cursors to the open line. `Err` is want of memory.
     pub fn push(
         &mut self,
         text: &[u8],
@@ -123,7 +124,7 @@ impl OpenLines {
         self.toks.truncate(self.kept_toks);
     }
 
-    /// Adds the open line, which has tokens, to the lines; the physical line `last` ends it.
+    /// Adds the open line, which has tokens, to the lines; the physical line `last` ends it. `Err` is want of memory.
     pub fn keep_line(&mut self, last: u32) -> Result<(), NoMemory>
         requires sound { IsSound self.old }
         requires some { open_toks self.old ≢ [] }
