@@ -2,9 +2,8 @@ pub mod ListLemmas
 pub mod StateLemmas
 pub mod RescanLemmas
 pub mod CallLemmas
-pub mod StepLemmas
-pub mod CutLemmas
-pub mod DefinedLemmas
+pub mod ArgLemmas
 pub mod CallBegins
+pub mod StepLemmas
+pub mod DefinedLemmas
 pub mod StartLemmas
-pub mod FlagLemmas

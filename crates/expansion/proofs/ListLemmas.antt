@@ -1,71 +1,27 @@
--- Lists of tokens with their hide sets, put together and taken apart.
-use Rattle.std.proofs.Common.{◌≡◌, sym, ◌∙◌, ap, subst, ℕ, Bool, ◌||◌, List, [], ◌∷◌, ◌++◌, map, append_assoc}
-use Rattle.std.specs.Prelude.{Some}
-use Rattle.std.proofs.lemmas.List.{map-append}
-use Rattle.std.proofs.lemmas.List.Elements.{All-cons, All-pop}
-use Rattle.hide_sets.specs.Sets.{Sets, IsSet, hides_of, Extends, Makes}
-use Rattle.hide_sets.proofs.Growing.{Extends-itself, Extends-on, hides_of-Extends}
-use Rattle.scan_model.specs.Substitution as spec
-use Rattle.scan_model.specs.Expansion.{hidden_by}
+-- Lists that are put together and taken apart.
+use Rattle.std.proofs.Common.{◌≡◌, ◌∙◌, ap, refl, suc, ◌+◌, List, [], ◌∷◌, ◌++◌, reverse, take, drop, length, get_or}
+use Rattle.std.proofs.lemmas.List.{reverse-append}
+use Rattle.std.proofs.lemmas.List.Sums.{sum_by-cons}
 use Rattle.substitution.specs.declared.marked.Marked.{Marked}
-use Rattle.substitution.specs.Meaning.{marked_of, all_marked_of, IsMarked, AreMarked}
-use Rattle.substitution.proofs.MeaningLemmas.{all_marked_of-Extends, AreMarked-Extends}
-use Rattle.expansion.specs.Lists.{PutsBefore}
+use Rattle.expansion.specs.States.{weight_of_lists}
 
--- ## A list put before another, token by token from its end
+module _ {X : Type 0} where
+  pub reverse-push : (xs ys : List X) (x : X) → ys ≡ xs ++ x ∷ [] → reverse ys ≡ x ∷ reverse xs
+  reverse-push xs ys x h = ap reverse h ∙ reverse-append xs (x ∷ [])
 
-pub record Putting (sets sets' : Sets) (added : ℕ) (list old rest now : List Marked) : Type 0 where
-  pub extended : Extends sets sets'
-  pub rest_known : AreMarked sets rest
-  pub known : AreMarked sets' now
-  pub whole : map (hidden_by (hides_of sets added)) (all_marked_of sets rest) ++ all_marked_of sets' now
-      ≡ map (hidden_by (hides_of sets added)) (all_marked_of sets list) ++ all_marked_of sets old
+  -- ## A list that stands before others
 
-pub putting-start : (sets : Sets) (added : ℕ) (list rest old now : List Marked) → AreMarked sets list → AreMarked sets old → rest ≡ list → now ≡ old → Putting sets sets added list old rest now
-putting-start sets added list rest old now l o e n = record {
-  extended = Extends-itself sets;
-  rest_known = subst (AreMarked sets) (sym e) l;
-  known = subst (AreMarked sets) (sym n) o;
-  whole = ap (λ (x : List Marked). map (hidden_by (hides_of sets added)) (all_marked_of sets x) ++ all_marked_of sets now) e
-      ∙ ap (λ (x : List Marked). map (hidden_by (hides_of sets added)) (all_marked_of sets list) ++ all_marked_of sets x) n;
-}
+  pub take-front : (xs ys : List X) → take (length xs) (xs ++ ys) ≡ xs
+  take-front [] ys = refl
+  take-front (x ∷ xs) ys = ap (λ (zs : List X). x ∷ zs) (take-front xs ys)
 
-hidden-push : (sets : Sets) (added : ℕ) (rest : List Marked) (m : Marked) →
-    map (hidden_by (hides_of sets added)) (all_marked_of sets (rest ++ m ∷ [])) ≡ map (hidden_by (hides_of sets added)) (all_marked_of sets rest) ++ hidden_by (hides_of sets added) (marked_of sets m) ∷ []
-hidden-push sets added rest m =
-    ap (map (hidden_by (hides_of sets added))) (map-append (marked_of sets) rest (m ∷ []))
-    ∙ map-append (hidden_by (hides_of sets added)) (all_marked_of sets rest) (marked_of sets m ∷ [])
+  pub drop-beyond : (xs ys : List X) (y : X) → drop (suc (length xs)) (xs ++ y ∷ ys) ≡ ys
+  drop-beyond [] ys y = refl
+  drop-beyond (x ∷ xs) ys y = drop-beyond xs ys y
 
--- the names that the token hides with the added ones
-hidden-made : (sets sets' sets'' : Sets) (added set : ℕ) (m : Marked) → Extends sets sets' → IsSet sets added → IsMarked sets m →
-    Makes sets' sets'' (λ name. hides_of sets' m.hides name || hides_of sets' added name) set →
-    marked_of sets'' (record m { hides = set }) ≡ hidden_by (hides_of sets added) (marked_of sets m)
-hidden-made sets sets' sets'' added set m x a k made =
-    let with_hides : (List ℕ → Bool) → spec.Marked = λ (h : List ℕ → Bool). record { tok = m.tok; hides = h } in
-    ap with_hides (made.meant
-    ∙ ap (λ (f : List ℕ → Bool). λ (name : List ℕ). f name || hides_of sets' added name) (hides_of-Extends sets sets' m.hides x k)
-    ∙ ap (λ (f : List ℕ → Bool). λ (name : List ℕ). hides_of sets m.hides name || f name) (hides_of-Extends sets sets' added x a))
+  pub get_or-beyond : (xs ys : List X) (y d : X) → get_or (xs ++ y ∷ ys) (length xs) d ≡ y
+  get_or-beyond [] ys y d = refl
+  get_or-beyond (x ∷ xs) ys y d = get_or-beyond xs ys y d
 
-pub putting-next : (sets sets' sets'' : Sets) (added set : ℕ) (list old rest rest' now now' : List Marked) (m : Marked) →
-    rest ≡ rest' ++ m ∷ [] → now' ≡ record m { hides = set } ∷ now → IsSet sets added →
-    Makes sets' sets'' (λ name. hides_of sets' m.hides name || hides_of sets' added name) set →
-    Putting sets sets' added list old rest now → Putting sets sets'' added list old rest' now'
-putting-next sets sets' sets'' added set list old rest rest' now now' m e n a made p =
-    let split = All-pop (IsMarked sets) rest rest' (Some m) e p.rest_known in
-    let hides = hides_of sets added in
-    record {
-      extended = Extends-on sets sets' sets'' p.extended made.extended;
-      rest_known = split.0;
-      known = subst (AreMarked sets'') (sym n) (All-cons (IsMarked sets'') (record m { hides = set }) now made.is_set (AreMarked-Extends sets' sets'' now made.extended p.known));
-      whole = ap (λ (x : List Marked). map (hidden_by hides) (all_marked_of sets rest') ++ all_marked_of sets'' x) n
-          ∙ ap (λ (x : spec.Marked). map (hidden_by hides) (all_marked_of sets rest') ++ x ∷ all_marked_of sets'' now) (hidden-made sets sets' sets'' added set m p.extended a split.1 made)
-          ∙ ap (λ (x : List spec.Marked). map (hidden_by hides) (all_marked_of sets rest') ++ hidden_by hides (marked_of sets m) ∷ x) (all_marked_of-Extends sets' sets'' now made.extended p.known)
-          ∙ sym (append_assoc (map (hidden_by hides) (all_marked_of sets rest')) (hidden_by hides (marked_of sets m) ∷ []) (all_marked_of sets' now))
-          ∙ ap (λ (x : List spec.Marked). x ++ all_marked_of sets' now) (sym (hidden-push sets added rest' m))
-          ∙ ap (λ (x : List Marked). map (hidden_by hides) (all_marked_of sets x) ++ all_marked_of sets' now) (sym e)
-          ∙ p.whole;
-    }
-
-pub putting-end : (sets sets' : Sets) (added : ℕ) (list old rest now : List Marked) → rest ≡ [] → Putting sets sets' added list old rest now → PutsBefore sets sets' (hides_of sets added) list old now
-putting-end sets sets' added list old rest now e p =
-    record { known = p.known; meant = ap (λ (x : List Marked). map (hidden_by (hides_of sets added)) (all_marked_of sets x) ++ all_marked_of sets' now) (sym e) ∙ p.whole }
+pub weight_of_lists-cons : (list : List Marked) (lists : List (List Marked)) → weight_of_lists (list ∷ lists) ≡ suc (length list) + weight_of_lists lists
+weight_of_lists-cons list lists = sum_by-cons (λ (l : List Marked). suc (length l)) list lists

@@ -1,6 +1,6 @@
 -- Where the machine starts.
-use Rattle.std.proofs.Common.{◌≡◌, sym, ◌∙◌, ap, subst, refl, ℕ, ◌^◌, ◌<◌, List, [], ◌∷◌, map, arith}
-use Rattle.std.specs.Prelude.{All}
+use Rattle.std.proofs.Common.{◌≡◌, sym, ◌∙◌, ap, subst, refl, ℕ, suc, ◌+◌, ◌^◌, ◌<◌, List, [], ◌∷◌, map, length, reverse, arith}
+use Rattle.std.specs.Prelude.{All, sum_by}
 use Rattle.std.proofs.lemmas.List.Elements.{All-nil, All-cons}
 use Rattle.hide_sets.specs.Sets.{Sets}
 use Rattle.scan_model.specs.declared.token.Tok.{Tok}
@@ -16,9 +16,10 @@ use Rattle.expansion.specs.declared.machine.Machine.{Machine}
 use Rattle.expansion.specs.declared.machine.Pending.{Pending}
 use Rattle.expansion.specs.declared.machine.Turn.{Turn}
 use Rattle.expansion.specs.declared.machine.Turn.TheVariants.{Ends}
+use Rattle.list_stack.specs.Stacks.{Stack}
 use Rattle.expansion.specs.Lists.{unhidden}
-use Rattle.expansion.specs.Meaning.{outs, all_resumed}
-use Rattle.expansion.specs.States.{IsMachine, IsPending, Turns, ran_of, pending_of}
+use Rattle.expansion.specs.Meaning.{outs}
+use Rattle.expansion.specs.States.{IsMachine, IsPending, Turns, ran_of, all_resumed}
 use Rattle.expansion.proofs.CallLemmas.{outs-nil}
 
 marks : (toks : List Tok) → all_marked_of [] (map unhidden toks) ≡ map (λ t. record { tok = t; hides = spec.no_name }) toks
@@ -31,23 +32,25 @@ known : (toks : List Tok) → AreMarked [] (map unhidden toks)
 known [] = All-nil (IsMarked [])
 known (t ∷ toks) = All-cons (IsMarked []) (unhidden t) (map unhidden toks) (omega arith) (known toks)
 
-pub start-valid : (m : Machine) (toks : List Tok) → m.sets ≡ [] → m.todo ≡ map unhidden toks → m.out.items ≡ [] → m.calls.items ≡ [] → m.cost ≡ 0 → m.counter < 2 ^ 63 → IsMachine m
+pub start-valid : (m : Machine) (toks : List Tok) → m.sets ≡ [] → m.todo ≡ record { first = map unhidden toks; others = [] } → m.out.items ≡ [] → m.calls.items ≡ [] → m.cost ≡ 0 → m.counter < 2 ^ 63 → IsMachine m
 start-valid m toks s t o c k n = record {
-  todo = subst (λ (x : Sets). AreMarked x m.todo) (sym s) (subst (AreMarked []) (sym t) (known toks));
+  first = subst (λ (x : Sets). AreMarked x m.todo.first) (sym s) (subst (AreMarked []) (sym (ap (λ (x : Stack). x.first) t)) (known toks));
+  others = subst (λ (ls : List (List Marked)). All (AreMarked m.sets) ls) (sym (ap (λ (x : Stack). x.others) t)) (All-nil (AreMarked m.sets));
   out = subst (AreMarked m.sets) (sym o) (All-nil (IsMarked m.sets));
   calls = subst (λ (ps : List Pending). All (IsPending m.sets) ps) (sym c) (All-nil (IsPending m.sets));
+  lists = ap (λ (x : Stack). length x.others) t ∙ sym (ap (λ (ps : List Pending). 0 + sum_by (λ p. suc p.call.further) ps) c);
   cost = omega arith;
   counter = omega arith;
 }
 
-pub start-means : (e : expansion.Scope) (m : Machine) (toks : List Tok) → m.sets ≡ [] → m.todo ≡ map unhidden toks → m.out.items ≡ [] → m.calls.items ≡ [] → m.cost ≡ 0 → m.counter ≡ expansion.first_counter e.mode →
+pub start-means : (e : expansion.Scope) (m : Machine) (toks : List Tok) → m.sets ≡ [] → m.todo ≡ record { first = map unhidden toks; others = [] } → m.out.items ≡ [] → m.calls.items ≡ [] → m.cost ≡ 0 → m.counter ≡ expansion.first_counter e.mode →
     answer_of (ran_of e m) ≡ expansion.expand e.defs e.site e.mode toks
 start-means e m toks s t o c k n =
     ap answer_of (
-    ap (λ (ps : List Pending). all_resumed e (map (pending_of m.sets) ps) (outs (all_marked_of m.sets m.out.items) (expands e (all_marked_of m.sets m.todo) m.cost m.counter))) c
-    ∙ ap (λ (ms : List Marked). outs (all_marked_of m.sets ms) (expands e (all_marked_of m.sets m.todo) m.cost m.counter)) o
-    ∙ outs-nil (expands e (all_marked_of m.sets m.todo) m.cost m.counter)
-    ∙ ap (λ (ms : List Marked). expands e (all_marked_of m.sets ms) m.cost m.counter) t
+    ap (λ (ps : List Pending). all_resumed e m.sets (reverse ps) m.todo.others (outs (all_marked_of m.sets m.out.items) (expands e (all_marked_of m.sets m.todo.first) m.cost m.counter))) c
+    ∙ ap (λ (ms : List Marked). outs (all_marked_of m.sets ms) (expands e (all_marked_of m.sets m.todo.first) m.cost m.counter)) o
+    ∙ outs-nil (expands e (all_marked_of m.sets m.todo.first) m.cost m.counter)
+    ∙ ap (λ (x : Stack). expands e (all_marked_of m.sets x.first) m.cost m.counter) t
     ∙ ap (λ (x : Sets). expands e (all_marked_of x (map unhidden toks)) m.cost m.counter) s
     ∙ ap (λ (ms : List spec.Marked). expands e ms m.cost m.counter) (marks toks)
     ∙ ap (λ (c : ℕ). expands e (map (λ t. record { tok = t; hides = spec.no_name }) toks) c m.counter) k

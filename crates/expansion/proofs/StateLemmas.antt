@@ -1,12 +1,14 @@
 -- What a state stands for, when its table of hide sets grows and when its list fails.
-use Rattle.std.proofs.Common.{◌≡◌, ◌∙◌, ap, refl, ℕ, Bool, List, [], ◌∷◌, map, arith}
-use Rattle.std.specs.Prelude.{All, Option, Some, None, IfOk, Result, Ok, Err, ◌≤◌}
+use Rattle.std.proofs.Common.{◌≡◌, ◌∙◌, ap, subst, sym, refl, ℕ, suc, ◌<◌, Bool, List, [], ◌∷◌, ◌++◌, map, length, reverse, take, drop, ⊎_elim, arith}
+use Rattle.std.specs.Prelude.{All, Option, Some, None, IfOk, Result, Ok, Err, ◌≤◌, slice_index_or}
 use Rattle.scan_model.specs.declared.memory.NoMemory.{NoMemory}
 use Rattle.expansion.specs.declared.machine.Turn.{Turn}
 use Rattle.expansion.specs.declared.machine.Turn.TheVariants.{Goes, Ends}
 use Rattle.expansion_laws.specs.Turns.{expands}
 use Rattle.substitution.specs.Meaning.{GivesMarked}
-use Rattle.std.proofs.lemmas.List.Elements.{All-head, All-tail, All-weaker}
+use Rattle.std.proofs.lemmas.Bool.{cases_lt}
+use Rattle.std.proofs.lemmas.List.{get_or_past, reverse-append}
+use Rattle.std.proofs.lemmas.List.Elements.{All-nil, All-push, All-same, All-head, All-tail, All-take, All-drop, All-weaker}
 use Rattle.hide_sets.specs.Sets.{Sets, Extends}
 use Rattle.hide_sets.proofs.Growing.{hides_of-Extends, IsSet-Extends}
 use Rattle.scan_model.specs.declared.expansion.Expanded.{Expanded}
@@ -15,24 +17,23 @@ use Rattle.scan_model.specs.Expansion as expansion
 use Rattle.scan_model.specs.Expansion.{Ran, Went, Failed, Replaced, Args, NotReplaced, with_arg, rescanned}
 use Rattle.substitution.specs.declared.marked.Marked.{Marked}
 use Rattle.substitution.specs.declared.marked.Arg.{Arg}
-use Rattle.substitution.specs.Meaning.{all_marked_of, arg_of, AreMarked, IsArg}
+use Rattle.substitution.specs.Meaning.{all_marked_of, arg_of, IsMarked, AreMarked, IsArg}
 use Rattle.substitution.proofs.MeaningLemmas.{marked_of-Extends, all_marked_of-Extends, AreMarked-Extends}
-use Rattle.expansion.specs.declared.machine.Written.{Written}
 use Rattle.expansion.specs.declared.machine.Call.{Call}
 use Rattle.expansion.specs.declared.machine.Pending.{Pending}
 use Rattle.expansion.specs.declared.machine.Machine.{Machine}
 use Rattle.expansion.specs.Meaning as meaning
-use Rattle.expansion.specs.Meaning.{outs, with_args, args_of, call_ran, resumed, all_resumed}
-use Rattle.expansion.specs.States.{written_of, call_of, pending_of, IsCall, IsPending, IsMachine, continued, Turns}
+use Rattle.expansion.specs.Meaning.{outs, resumed}
+use Rattle.expansion.specs.States.{call_of, pending_of, IsCall, IsPending, IsMachine, all_resumed, continued, Turns}
 
 -- ## What fails
 
-pub all_resumed-failed : (e : expansion.Scope) (ps : List meaning.Pending) (answer : Expanded) → all_resumed e ps (Failed answer) ≡ Failed answer
-all_resumed-failed e [] answer = refl
-all_resumed-failed e (p ∷ ps) answer = ap (resumed e p) (all_resumed-failed e ps answer)
+pub all_resumed-failed : (e : expansion.Scope) (sets : Sets) (ps : List Pending) (lists : List (List Marked)) (answer : Expanded) → all_resumed e sets ps lists (Failed answer) ≡ Failed answer
+all_resumed-failed e sets [] lists answer = refl
+all_resumed-failed e sets (p ∷ ps) lists answer = all_resumed-failed e sets ps (drop (suc p.call.further) lists) answer
 
 pub continued-failed : (e : expansion.Scope) (m : Machine) (answer : Expanded) → continued e m (Failed answer) ≡ Failed answer
-continued-failed e m answer = all_resumed-failed e (map (pending_of m.sets) m.calls.items) answer
+continued-failed e m answer = all_resumed-failed e m.sets (reverse m.calls.items) m.todo.others answer
 
 -- ## A larger table
 
@@ -44,6 +45,16 @@ map-same {X} {Y} f g P same (x ∷ xs) h =
     let rest : map f xs ≡ map g xs = map-same f g P same xs (All-tail P x xs h) in
     cc
 
+-- the list at a place, or no token
+pub AreMarked-at : (sets : Sets) (lists : List (List Marked)) (k : ℕ) → All (AreMarked sets) lists → AreMarked sets (slice_index_or lists k [])
+AreMarked-at sets lists k h = ⊎_elim (λ (lt : k < length lists). h k [] lt)
+    (λ (le : length lists ≤ k). subst (AreMarked sets) (sym (get_or_past lists k [] le)) (All-nil (IsMarked sets)))
+    (cases_lt k (length lists))
+
+pub All-reverse : {X : Type 0} (P : X → Type 0) (xs : List X) → All P xs → All P (reverse xs)
+All-reverse P [] h = h
+All-reverse P (x ∷ xs) h = All-same P (reverse (x ∷ xs)) (reverse xs ++ x ∷ []) (reverse-append (x ∷ []) xs) (All-push P (reverse xs) x (All-reverse P xs (All-tail P x xs h)) (All-head P x xs h))
+
 module _ (old new : Sets) (x : Extends old new) where
   arg_of-grown : (a : Arg) → IsArg old a → arg_of new a ≡ arg_of old a
   arg_of-grown a h =
@@ -54,58 +65,65 @@ module _ (old new : Sets) (x : Extends old new) where
   IsArg-grown : (a : Arg) → IsArg old a → IsArg new a
   IsArg-grown a h = record { written = AreMarked-Extends old new _ x h.written; replaced = AreMarked-Extends old new _ x h.replaced }
 
-  written_of-grown : (w : Written) → AreMarked old w.list.items → written_of new w ≡ written_of old w
-  written_of-grown w h = let one = all_marked_of-Extends old new w.list.items x h in cc
+  lists-grown : (lists : List (List Marked)) → All (AreMarked old) lists → map (all_marked_of new) lists ≡ map (all_marked_of old) lists
+  lists-grown lists h = map-same (all_marked_of new) (all_marked_of old) (AreMarked old) (λ l k. all_marked_of-Extends old new l x k) lists h
 
-  call_of-grown : (c : Call) → IsCall old c → call_of new c ≡ call_of old c
-  call_of-grown c h =
+  pub AreLists-grown : (lists : List (List Marked)) → All (AreMarked old) lists → All (AreMarked new) lists
+  AreLists-grown lists h = All-weaker (AreMarked old) (AreMarked new) (λ l k. AreMarked-Extends old new l x k) lists h
+
+  call_of-grown : (c : Call) (begun : ℕ) (lists : List (List Marked)) → IsCall old c begun → All (AreMarked old) lists → call_of new c begun lists ≡ call_of old c begun lists
+  call_of-grown c begun lists h k =
       let name = marked_of-Extends old new c.name x h.name in
       let close = hides_of-Extends old new c.close x h.close in
       let args = map-same (arg_of new) (arg_of old) (IsArg old) arg_of-grown c.args.items h.args in
-      let further = map-same (written_of new) (written_of old) (λ w. AreMarked old w.list.items) written_of-grown c.further.items h.further in
+      let further = lists-grown (take c.further lists) (All-take (AreMarked old) c.further lists k) in
       let before = all_marked_of-Extends old new c.before.items x h.before in
-      let rest = all_marked_of-Extends old new c.rest x h.rest in
+      let rest = all_marked_of-Extends old new (slice_index_or lists c.further []) x (AreMarked-at old lists c.further k) in
       cc
 
-  IsCall-grown : (c : Call) → IsCall old c → IsCall new c
-  IsCall-grown c h = record {
+  IsCall-grown : (c : Call) (begun : ℕ) → IsCall old c begun → IsCall new c begun
+  IsCall-grown c begun h = record {
     name = IsSet-Extends old new _ x h.name;
     close = IsSet-Extends old new _ x h.close;
     args = All-weaker (IsArg old) (IsArg new) IsArg-grown c.args.items h.args;
-    further = All-weaker (λ w. AreMarked old w.list.items) (λ w. AreMarked new w.list.items) (λ w. AreMarked-Extends old new w.list.items x) c.further.items h.further;
     before = AreMarked-Extends old new _ x h.before;
-    rest = AreMarked-Extends old new _ x h.rest;
+    fits = h.fits;
   }
 
-  pending_of-grown : (p : Pending) → IsPending old p → pending_of new p ≡ pending_of old p
-  pending_of-grown p h =
-      let call = call_of-grown p.call h.call in
+  pending_of-grown : (p : Pending) (lists : List (List Marked)) → IsPending old p → All (AreMarked old) lists → pending_of new p lists ≡ pending_of old p lists
+  pending_of-grown p lists h k =
+      let call = call_of-grown p.call (suc (length p.call.args.items)) lists h.call k in
       let written = all_marked_of-Extends old new p.written.items x h.written in
       cc
 
   IsPending-grown : (p : Pending) → IsPending old p → IsPending new p
-  IsPending-grown p h = record { call = IsCall-grown p.call h.call; written = AreMarked-Extends old new _ x h.written }
-
-  pub pendings-grown : (ps : List Pending) → All (IsPending old) ps → map (pending_of new) ps ≡ map (pending_of old) ps
-  pendings-grown ps h = map-same (pending_of new) (pending_of old) (IsPending old) pending_of-grown ps h
+  IsPending-grown p h = record { call = IsCall-grown p.call (suc (length p.call.args.items)) h.call; written = AreMarked-Extends old new _ x h.written }
 
   pub ArePending-grown : (ps : List Pending) → All (IsPending old) ps → All (IsPending new) ps
   ArePending-grown ps h = All-weaker (IsPending old) (IsPending new) IsPending-grown ps h
 
+  pub all_resumed-grown : (e : expansion.Scope) (ps : List Pending) (lists : List (List Marked)) (ran : Ran) → All (IsPending old) ps → All (AreMarked old) lists → all_resumed e new ps lists ran ≡ all_resumed e old ps lists ran
+  all_resumed-grown e [] lists ran h k = refl
+  all_resumed-grown e (p ∷ ps) lists ran h k =
+      ap (λ (q : meaning.Pending). all_resumed e new ps (drop (suc p.call.further) lists) (resumed e q ran)) (pending_of-grown p lists (All-head (IsPending old) p ps h) k)
+      ∙ all_resumed-grown e ps (drop (suc p.call.further) lists) (resumed e (pending_of old p lists) ran) (All-tail (IsPending old) p ps h) (All-drop (AreMarked old) (suc p.call.further) lists k)
+
 -- the same machine with a larger table
 pub IsMachine-grown : (m : Machine) (sets : Sets) → Extends m.sets sets → IsMachine m → IsMachine (record m { sets = sets })
 IsMachine-grown m sets x h = record {
-  todo = AreMarked-Extends m.sets sets m.todo x h.todo;
+  first = AreMarked-Extends m.sets sets m.todo.first x h.first;
+  others = AreLists-grown m.sets sets x m.todo.others h.others;
   out = AreMarked-Extends m.sets sets m.out.items x h.out;
   calls = ArePending-grown m.sets sets x m.calls.items h.calls;
+  lists = h.lists;
   cost = h.cost;
   counter = h.counter;
 }
 
 pub continued-grown : (e : expansion.Scope) (m : Machine) (sets : Sets) (ran : Ran) → Extends m.sets sets → IsMachine m → continued e (record m { sets = sets }) ran ≡ continued e m ran
 continued-grown e m sets ran x h =
-    ap (λ (ps : List meaning.Pending). all_resumed e ps (outs (all_marked_of sets m.out.items) ran)) (pendings-grown m.sets sets x m.calls.items h.calls)
-    ∙ ap (λ (o : List spec.Marked). all_resumed e (map (pending_of m.sets) m.calls.items) (outs o ran)) (all_marked_of-Extends m.sets sets m.out.items x h.out)
+    all_resumed-grown m.sets sets x e (reverse m.calls.items) m.todo.others (outs (all_marked_of sets m.out.items) ran) (All-reverse (IsPending m.sets) m.calls.items h.calls) h.others
+    ∙ ap (λ (o : List spec.Marked). all_resumed e m.sets (reverse m.calls.items) m.todo.others (outs o ran)) (all_marked_of-Extends m.sets sets m.out.items x h.out)
 
 -- the list that a replacement gives, in a larger table
 pub GivesList-grown : (sets sets' : Sets) (list : Option (List spec.Marked)) (given : Option (List Marked)) → Extends sets sets' → GivesMarked sets list given → GivesMarked sets' list given
@@ -117,13 +135,13 @@ GivesList-grown sets sets' list (Some ms) x h =
 -- the same replacement, seen by a larger table
 pub rescanned-grown : (e : expansion.Scope) (m : Machine) (sets : Sets) (added added' : List ℕ → Bool) (list list' : Option (List spec.Marked)) →
     Extends m.sets sets → IsMachine m → added' ≡ added → list' ≡ list →
-    continued e (record m { sets = sets }) (rescanned (expands e) e added' (all_marked_of sets m.todo) m.cost m.counter list')
-    ≡ continued e m (rescanned (expands e) e added (all_marked_of m.sets m.todo) m.cost m.counter list)
+    continued e (record m { sets = sets }) (rescanned (expands e) e added' (all_marked_of sets m.todo.first) m.cost m.counter list')
+    ≡ continued e m (rescanned (expands e) e added (all_marked_of m.sets m.todo.first) m.cost m.counter list)
 rescanned-grown e m sets added added' list list' x h a l =
     continued-grown e m sets _ x h
-    ∙ ap (λ (f : List ℕ → Bool). continued e m (rescanned (expands e) e f (all_marked_of sets m.todo) m.cost m.counter list')) a
-    ∙ ap (λ (t : List spec.Marked). continued e m (rescanned (expands e) e added t m.cost m.counter list')) (all_marked_of-Extends m.sets sets m.todo x h.todo)
-    ∙ ap (λ (o : Option (List spec.Marked)). continued e m (rescanned (expands e) e added (all_marked_of m.sets m.todo) m.cost m.counter o)) l
+    ∙ ap (λ (f : List ℕ → Bool). continued e m (rescanned (expands e) e f (all_marked_of sets m.todo.first) m.cost m.counter list')) a
+    ∙ ap (λ (t : List spec.Marked). continued e m (rescanned (expands e) e added t m.cost m.counter list')) (all_marked_of-Extends m.sets sets m.todo.first x h.first)
+    ∙ ap (λ (o : Option (List spec.Marked)). continued e m (rescanned (expands e) e added (all_marked_of m.sets m.todo.first) m.cost m.counter o)) l
 
 -- ## Turns to the same end
 

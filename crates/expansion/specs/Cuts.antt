@@ -1,43 +1,38 @@
--- What a call's parentheses enclose, and its arguments.
-use Rattle.std.specs.Prelude.{◌≡◌, ℕ, ◌+◌, List, [], ◌∷◌, ◌++◌, map, length, sum_by, All, Option, Some, None, Vec}
-use Rattle.std.specs.declared.alloc.Global.{Global}
+-- The arguments of a call, cut.
+use Rattle.std.specs.Prelude.{◌≡◌, ℕ, suc, ◌≤◌, nat_lt, if◌then◌else◌, List, [], ◌∷◌, ◌++◌, map, length, All, Option, Some, None}
 use Rattle.hide_sets.specs.Sets.{Sets}
 use Rattle.scan_model.specs.declared.macros.FunctionDef.{FunctionDef}
-use Rattle.scan_model.specs.Substitution as subst
-use Rattle.scan_model.specs.Substitution.{is_replaced}
-use Rattle.scan_model.specs.Parentheses.{in_parens}
+use Rattle.scan_model.specs.Substitution as spec
+use Rattle.scan_model.specs.Expansion.{written_args}
 use Rattle.substitution.specs.declared.marked.Marked.{Marked}
-use Rattle.substitution.specs.Meaning.{marked_of, all_marked_of, AreMarked}
-use Rattle.expansion.specs.declared.parens.Parens.{Parens}
-use Rattle.expansion.specs.Meaning.{Written}
+use Rattle.substitution.specs.declared.marked.Arg.{Arg}
+use Rattle.substitution.specs.Meaning.{all_marked_of, AreMarked}
+use Rattle.list_stack.specs.Stacks.{Stack}
+use Rattle.expansion.specs.States.{names_of, weight_of_lists}
 
--- the parentheses were the list's first tokens, and the rest is left
-pub record Encloses (old new : List Marked) (p : Parens) : Type 0 where
-  pub first : Marked
-  pub parts : old ≡ first ∷ (p.inside.items ++ p.close ∷ new)
-  pub meant : (sets : Sets) → in_parens (λ m. m.tok) (all_marked_of sets old) ≡ Some (record { inside = all_marked_of sets p.inside.items; close = marked_of sets p.close; after = all_marked_of sets new })
+-- of a list with fewer than n elements: it with one more, which is empty
+abbrev pub filled : {X : Type 0} → X → ℕ → List X → List X
+filled none n xs = if nat_lt (length xs) n then xs ++ none ∷ [] else xs
 
-abbrev pub TakesParens : List Marked → List Marked → Option Parens → Type 0
-TakesParens old new None = (sets : Sets) → in_parens (λ m. m.tok) (all_marked_of sets old) ≡ None
-TakesParens old new (Some p) = Encloses old new p
+-- an argument of no tokens
+abbrev pub empty_arg : Arg
+empty_arg = record { written = []; replaced = None }
 
--- ## Arguments
+-- the list at work has been cut into these many arguments for n parameters, the last of which may be missing
+pub record AreCut (written : List spec.Marked → Option (List (List spec.Marked))) (n : ℕ) (old new : Stack) (count : ℕ) : Type 0 where
+  pub args : List (List Marked)
+  pub lists : new.first ∷ new.others ≡ args ++ old.others
+  pub count_is : count ≡ length args
+  pub enough : length args ≤ n
+  pub nearly : n ≤ suc (length args)
+  pub size : weight_of_lists args ≤ suc (length old.first)
+  pub known : (sets : Sets) → AreMarked sets old.first → All (AreMarked sets) args
+  pub meant : (sets : Sets) → written (all_marked_of sets old.first) ≡ Some (filled [] n (map (all_marked_of sets) args))
 
-abbrev pub items_of : List (Vec Marked Global) → List (List Marked)
-items_of vs = map (λ v. v.items) vs
+-- none where their number is wrong, and then nothing is said of what is left
+abbrev pub CutsInto : (List spec.Marked → Option (List (List spec.Marked))) → ℕ → Stack → Stack → Option ℕ → Type 0
+CutsInto written n old new None = (sets : Sets) → written (all_marked_of sets old.first) ≡ None
+CutsInto written n old new (Some count) = AreCut written n old new count
 
-abbrev pub all_lists_of : Sets → List (Vec Marked Global) → List (List subst.Marked)
-all_lists_of sets vs = map (λ v. all_marked_of sets v.items) vs
-
-abbrev pub AreKnown : Sets → List (Vec Marked Global) → Type 0
-AreKnown sets vs = All (λ v. AreMarked sets v.items) vs
-
--- with one for each list
-abbrev pub size : List (Vec Marked Global) → ℕ
-size vs = sum_by (λ v. 1 + length v.items) vs
-
--- each argument with whether it is replaced by itself
-abbrev pub flagged : FunctionDef → List (List ℕ) → List (List subst.Marked) → List Written
-flagged f [] args = []
-flagged f (name ∷ names) [] = []
-flagged f (name ∷ names) (w ∷ args) = record { list = w; replaced = is_replaced f name } ∷ flagged f names args
+abbrev pub CutsArgs : FunctionDef → Stack → Stack → Option ℕ → Type 0
+CutsArgs f old new found = CutsInto (written_args f) (length (names_of f)) old new found

@@ -1,94 +1,111 @@
 -- What a state of the machine stands for.
-use Rattle.std.specs.Prelude.{◌≡◌, ℕ, ◌+◌, ◌-◌, ◌^◌, ◌<◌, ◌≤◌, [], ◌∷◌, ◌++◌, map, length, sum_by, All, Vec, Option}
+use Rattle.std.specs.Prelude.{◌≡◌, ℕ, suc, ◌+◌, ◌-◌, ◌^◌, ◌<◌, ◌≤◌, List, [], ◌∷◌, ◌++◌, map, reverse, take, drop, length, slice_index_or, sum_by, All, Vec, Option}
 use Rattle.std.specs.Option.{option_map}
 use Rattle.std.specs.declared.alloc.Global.{Global}
 use Rattle.substitution.specs.declared.marked.Marked.{Marked}
 use Rattle.hide_sets.specs.Sets.{Sets, IsSet, hides_of}
 use Rattle.macro_table.specs.Table.{macros_of}
+use Rattle.scan_model.specs.declared.macros.FunctionDef.{FunctionDef}
+use Rattle.scan_model.specs.MacroDefinition.{all_params}
 use Rattle.scan_model.specs.Expansion as expansion
 use Rattle.scan_model.specs.Expansion.{Ran, cost_limit, answer_of}
 use Rattle.substitution.specs.Meaning.{marked_of, all_marked_of, arg_of, IsMarked, AreMarked, IsArg}
 use Rattle.expansion_laws.specs.Turns.{expands}
 use Rattle.expansion.specs.declared.scope.Scope.{Scope}
-use Rattle.expansion.specs.declared.machine.Written.{Written}
 use Rattle.expansion.specs.declared.machine.Call.{Call}
 use Rattle.expansion.specs.declared.machine.Pending.{Pending}
 use Rattle.expansion.specs.declared.machine.Machine.{Machine}
 use Rattle.expansion.specs.declared.machine.Turn.{Turn}
 use Rattle.expansion.specs.declared.machine.Turn.TheVariants.{Goes, Ends}
 use Rattle.expansion.specs.Meaning as meaning
-use Rattle.expansion.specs.Meaning.{outs, args_of, call_ran, all_resumed}
+use Rattle.expansion.specs.Meaning.{outs, ran_of_call, resumed}
 
 abbrev pub scope_of : Scope → expansion.Scope
 scope_of s = record { defs = (macros_of s.macros.now).defs; site = s.site.now; mode = s.mode }
 
 -- ## Calls
 
-abbrev pub written_of : Sets → Written → meaning.Written
-written_of sets w = record { list = all_marked_of sets w.list.items; replaced = w.replaced }
+-- its parameters, the variable part's name last
+abbrev pub names_of : FunctionDef → List (List ℕ)
+names_of f = all_params f.params f.variadic
 
-abbrev pub call_of : Sets → Call → meaning.Call
-call_of sets c = record {
+-- the parameter of the call's next argument
+abbrev pub next_name : Call → List ℕ
+next_name c = slice_index_or (names_of c.definition.now) (length c.args.items) []
+
+-- the call, of which this many arguments are done or under way; those that follow come first of these lists, and then
+-- what follows the `)`
+abbrev pub call_of : Sets → Call → ℕ → List (List Marked) → meaning.Call
+call_of sets c begun lists = record {
   definition = c.definition.now;
   name = marked_of sets c.name;
   close = hides_of sets c.close;
   args = map (arg_of sets) c.args.items;
-  further = map (written_of sets) c.further.items;
+  names = drop begun (names_of c.definition.now);
+  further = map (all_marked_of sets) (take c.further lists);
   before = all_marked_of sets c.before.items;
-  rest = all_marked_of sets c.rest;
+  rest = all_marked_of sets (slice_index_or lists c.further []);
 }
 
-abbrev pub pending_of : Sets → Pending → meaning.Pending
-pending_of sets p = record { call = call_of sets p.call; written = all_marked_of sets p.written.items }
+-- the same of a call one of whose arguments is under way
+abbrev pub pending_of : Sets → Pending → List (List Marked) → meaning.Pending
+pending_of sets p lists = record { call = call_of sets p.call (suc (length p.call.args.items)) lists; written = all_marked_of sets p.written.items }
 
--- the table has the hide sets of the call's tokens
-pub record IsCall (sets : Sets) (c : Call) : Type 0 where
+-- the table has the hide sets of the call's tokens, and each argument that follows has its parameter
+pub record IsCall (sets : Sets) (c : Call) (begun : ℕ) : Type 0 where
   pub name : IsMarked sets c.name
   pub close : IsSet sets c.close
   pub args : All (IsArg sets) c.args.items
-  pub further : All (λ w. AreMarked sets w.list.items) c.further.items
   pub before : AreMarked sets c.before.items
-  pub rest : AreMarked sets c.rest
+  pub fits : begun + c.further ≤ length (names_of c.definition.now)
 
 pub record IsPending (sets : Sets) (p : Pending) : Type 0 where
-  pub call : IsCall sets p.call
+  pub call : IsCall sets p.call (suc (length p.call.args.items))
   pub written : AreMarked sets p.written.items
-
--- what comes of the call by what comes of its further arguments
-abbrev pub ran_of_call : expansion.Scope → Sets → Call → ℕ → ℕ → Ran
-ran_of_call e sets c cost counter = call_ran e (call_of sets c) (args_of e (map (written_of sets) c.further.items) cost counter)
 
 -- ## The machine
 
--- what comes of the whole list, by what comes of what is left of the list that the machine is at
+-- What comes of the whole list, by what comes of the list at work, for calls inside one another, the innermost first.
+-- These lists follow the one at work.
+abbrev pub all_resumed : expansion.Scope → Sets → List Pending → List (List Marked) → Ran → Ran
+all_resumed e sets [] lists ran = ran
+all_resumed e sets (p ∷ ps) lists ran = all_resumed e sets ps (drop (suc p.call.further) lists) (resumed e (pending_of sets p lists) ran)
+
+-- what comes of the whole list, by what comes of what is left of the list at work
 abbrev pub continued : expansion.Scope → Machine → Ran → Ran
-continued e m ran = all_resumed e (map (pending_of m.sets) m.calls.items) (outs (all_marked_of m.sets m.out.items) ran)
+continued e m ran = all_resumed e m.sets (reverse m.calls.items) m.todo.others (outs (all_marked_of m.sets m.out.items) ran)
 
 abbrev pub ran_of : expansion.Scope → Machine → Ran
-ran_of e m = continued e m (expands e (all_marked_of m.sets m.todo) m.cost m.counter)
+ran_of e m = continued e m (expands e (all_marked_of m.sets m.todo.first) m.cost m.counter)
 
--- The table has every hide set, the cost is within the limit, and the counter can rise as often as the limit lets it.
-pub record IsMachine (m : Machine) : Type 0 where
-  pub todo : AreMarked m.sets m.todo
+-- The table has every hide set, the cost is within the limit, and the counter can rise as often as the limit lets it. A
+-- call that has been taken out has this many arguments that follow: they and what follows its `)` are the first lists.
+pub record IsMachineBeside (m : Machine) (further : ℕ) : Type 0 where
+  pub first : AreMarked m.sets m.todo.first
+  pub others : All (AreMarked m.sets) m.todo.others
   pub out : AreMarked m.sets m.out.items
   pub calls : All (IsPending m.sets) m.calls.items
+  pub lists : length m.todo.others ≡ further + sum_by (λ p. suc p.call.further) m.calls.items
   pub cost : m.cost ≤ cost_limit
   pub counter : m.counter + (cost_limit - m.cost) < 2 ^ 63 + cost_limit
 
+-- no call is taken out
+abbrev pub IsMachine : Machine → Type 0
+IsMachine m = IsMachineBeside m 0
+
+-- what comes of the whole list where this innermost call has been taken out of the machine
+abbrev pub called_on : expansion.Scope → Machine → Call → Ran
+called_on e m c =
+    all_resumed e m.sets (reverse m.calls.items) (drop c.further m.todo.others)
+    (ran_of_call e (call_of m.sets c (length c.args.items) (m.todo.first ∷ m.todo.others)) m.cost m.counter)
+
 -- ## How much is left to do
 
-abbrev pub weight_of_written : Written → ℕ
-weight_of_written w = 1 + length w.list.items
-
-abbrev pub weight_of_call : Call → ℕ
-weight_of_call c = length c.rest + sum_by weight_of_written c.further.items
-
--- without the list that the machine is at
-abbrev pub weight_beside : Machine → ℕ
-weight_beside m = (cost_limit - m.cost) + sum_by (λ p. weight_of_call p.call) m.calls.items
+abbrev pub weight_of_lists : List (List Marked) → ℕ
+weight_of_lists lists = sum_by (λ l. suc (length l)) lists
 
 abbrev pub weight : Machine → ℕ
-weight m = length m.todo + weight_beside m
+weight m = length m.todo.first + weight_of_lists m.todo.others + (cost_limit - m.cost)
 
 -- ## A turn
 
@@ -102,16 +119,19 @@ abbrev pub Turns : expansion.Scope → Ran → ℕ → Machine → Turn → Type
 Turns e ran most m Goes = GoesOn e ran most m
 Turns e ran most m (Ends answer) = answer ≡ answer_of ran
 
--- what comes of the whole list, by what comes of an innermost call that the machine has taken out
-abbrev pub around : expansion.Scope → Machine → Ran → Ran
-around e m ran = all_resumed e (map (pending_of m.sets) m.calls.items) ran
-
 -- the call with one more argument that is done
 pub record AddsArg (old : Call) (written : Vec Marked Global) (replaced : Option (Vec Marked Global)) (new : Call) : Type 0 where
   pub definition : new.definition ≡ old.definition
   pub name : new.name ≡ old.name
   pub close : new.close ≡ old.close
   pub args : new.args.items ≡ old.args.items ++ record { written = written.items; replaced = option_map (λ v. v.items) replaced } ∷ []
-  pub further : new.further.items ≡ old.further.items
+  pub further : new.further ≡ old.further
   pub before : new.before.items ≡ old.before.items
-  pub rest : new.rest ≡ old.rest
+
+-- the call that has been taken out goes on to the same end, with one argument less that follows
+pub record TakesArg (old : Machine) (call : Call) (new : Machine) (call' : Call) : Type 0 where
+  pub valid : IsMachineBeside new call'.further
+  pub known : IsCall new.sets call' (length call'.args.items)
+  pub fewer : call'.further < call.further
+  pub less : weight new ≤ weight old
+  pub same : (e : expansion.Scope) → called_on e new call' ≡ called_on e old call

@@ -24,7 +24,7 @@ impl<'a> Machine<'a> {
     ) -> Result<Turn, NoMemory>
         requires valid { IsMachine self.old }
         requires name { IsMarked self.old.sets name }
-        ensures { IfOk result (Turns (scope_of scope.now) (continued (scope_of scope.now) self.old (built_in (expands (scope_of scope.now)) (scope_of scope.now) which (marked_of self.old.sets name) (all_marked_of self.old.sets self.old.todo) self.old.cost self.old.counter)) (weight self.old + 1) self.new) }
+        ensures { IfOk result (Turns (scope_of scope.now) (continued (scope_of scope.now) self.old (built_in (expands (scope_of scope.now)) (scope_of scope.now) which (marked_of self.old.sets name) (all_marked_of self.old.sets self.old.todo.first) self.old.cost self.old.counter)) (weight self.old + 1) self.new) }
     {
         match which {
             BuiltIn::File => {
@@ -57,7 +57,7 @@ impl<'a> Machine<'a> {
     fn counts(&mut self, scope: &Scope<'a>, name: Marked) -> Result<Turn, NoMemory>
         requires valid { IsMachine self.old }
         requires name { IsMarked self.old.sets name }
-        ensures { IfOk result (Turns (scope_of scope.now) (continued (scope_of scope.now) self.old (built_in (expands (scope_of scope.now)) (scope_of scope.now) BuiltIn.Counter (marked_of self.old.sets name) (all_marked_of self.old.sets self.old.todo) self.old.cost self.old.counter)) (weight self.old + 1) self.new) }
+        ensures { IfOk result (Turns (scope_of scope.now) (continued (scope_of scope.now) self.old (built_in (expands (scope_of scope.now)) (scope_of scope.now) BuiltIn.Counter (marked_of self.old.sets name) (all_marked_of self.old.sets self.old.todo.first) self.old.cost self.old.counter)) (weight self.old + 1) self.new) }
     {
         if !is_text(scope.mode) {
             return Ok(Turn::Ends(Expanded::Counter));
@@ -75,7 +75,7 @@ impl<'a> Machine<'a> {
     fn gives(&mut self, kind: Kind, text: Bytes, name: Marked) -> Result<Turn, NoMemory>
         requires valid { IsMachine self.old }
         requires name { IsMarked self.old.sets name }
-        ensures { IfOk result (λ turn. (e : expansion.Scope) → Turns e (continued e self.old (built_in_out (expands e) e kind text (marked_of self.old.sets name) (all_marked_of self.old.sets self.old.todo) self.old.cost self.old.counter)) (weight self.old + 1) self.new turn) }
+        ensures { IfOk result (λ turn. (e : expansion.Scope) → Turns e (continued e self.old (built_in_out (expands e) e kind text (marked_of self.old.sets name) (all_marked_of self.old.sets self.old.todo.first) self.old.cost self.old.counter)) (weight self.old + 1) self.new turn) }
     {
         if self.cost + 2 > COST_LIMIT {
             return Ok(Turn::Ends(Expanded::TooLong));

@@ -1,21 +1,19 @@
-ghost use Rattle.std.specs.Prelude.{◌≡◌, ◌+◌, [], IfOk, length, map};
+ghost use Rattle.std.specs.Prelude.{◌≡◌, ◌+◌, ◌<◌, [], true, false, IfOk, length, map};
 ghost use Rattle.scan_model.specs.Parentheses.{in_parens};
+ghost use Rattle.scan_model.specs.Substitution.{is_replaced};
 ghost use Rattle.scan_model.specs.Expansion as expansion;
-ghost use Rattle.scan_model.specs.Expansion.{Args, Went};
-ghost use Rattle.substitution.specs.Meaning.{marked_of, all_marked_of, IsMarked, AreMarked};
+ghost use Rattle.scan_model.specs.Expansion.{Went};
+ghost use Rattle.substitution.specs.Meaning.{marked_of, all_marked_of, IsMarked};
 ghost use Rattle.expansion_laws.specs.Turns.{expands};
-ghost use Rattle.expansion.specs.Meaning.{call_ran, resumed};
-ghost use Rattle.expansion.specs.States.{AddsArg, IsMachine, IsCall, Turns, around, continued, call_of, ran_of_call, weight, weight_beside, weight_of_call};
+ghost use Rattle.expansion.specs.Meaning.{kept_written};
+ghost use Rattle.expansion.specs.States.{AddsArg, IsCall, IsMachine, IsMachineBeside, TakesArg, Turns, called_on, continued, next_name, weight};
 
-use crate::copies::copy_list;
-use crate::cuts::{flagged, written_args};
+use crate::args::{all_args, cut_args, parameter};
 use crate::machine::{Call, Machine, Pending, Turn};
-use crate::parens::{Parens, take_parens};
-use crate::todo::Todo;
 use scan_model::{Expanded, FunctionDef, Items, NoMemory, Tok};
 use std::alloc::Global;
 use std::mem;
-use substitution::{Arg, Marked, substitute_function};
+use substitution::{Arg, Marked, is_replaced, is_taken_as_written, substitute_function};
 
 impl<'a> Machine<'a> {
     /// The name of a function-like macro and a `(` are a call, which is replaced.
@@ -26,37 +24,36 @@ impl<'a> Machine<'a> {
     ) -> Result<Turn, NoMemory>
         requires valid { IsMachine self.old }
         requires name { IsMarked self.old.sets name }
-        ensures { IfOk result (λ turn. (e : expansion.Scope) → Turns e (continued e self.old (expansion.call (expands e) e definition.now (marked_of self.old.sets name) self.old.cost self.old.counter (in_parens (λ m. m.tok) (all_marked_of self.old.sets self.old.todo)))) (weight self.old + 1) self.new turn) }
+        ensures { IfOk result (λ turn. (e : expansion.Scope) → Turns e (continued e self.old (expansion.call (expands e) e definition.now (marked_of self.old.sets name) self.old.cost self.old.counter (in_parens (λ m. m.tok) (all_marked_of self.old.sets self.old.todo.first)))) (weight self.old + 1) self.new turn) }
     {
-        let Some(Parens { inside, close }) = take_parens(self.alloc, &mut self.todo)? else {
+        let Some(close) = self.todo.open()? else {
             return Ok(Turn::Ends(Expanded::Bad));
         };
-        let Some(args) = written_args(self.alloc, definition, inside)? else {
+        let Some(further) = cut_args(&mut self.todo, definition)? else {
             return Ok(Turn::Ends(Expanded::Bad));
         };
-        let further = flagged(self.alloc, definition, args)?;
         let before = mem::replace(&mut self.out, Vec::new(self.alloc));
-        let rest = mem::replace(&mut self.todo, Todo::new(self.alloc));
         self.next_arg(Call {
             definition,
             name,
-            close: close.hides,
+            close,
             args: Vec::new(self.alloc),
             further,
             before,
-            rest,
         })
     }
 
-    /// Nothing is left of the list: it was the whole, or an argument of the innermost call.
+    /// Nothing is left of the list at work: it was the whole, or an argument of the innermost call.
     pub(crate) fn end_list(&mut self) -> Result<Turn, NoMemory>
         requires valid { IsMachine self.old }
-        ensures { IfOk result (λ turn. (e : expansion.Scope) → Turns e (continued e self.old (Went [] self.old.cost self.old.counter)) (weight_beside self.old) self.new turn) }
+        requires ended { self.old.todo.first ≡ [] }
+        ensures { IfOk result (λ turn. (e : expansion.Scope) → Turns e (continued e self.old (Went [] self.old.cost self.old.counter)) (weight self.old) self.new turn) }
     {
         let out = mem::replace(&mut self.out, Vec::new(self.alloc));
         match self.calls.pop() {
             None => Ok(Turn::Ends(Expanded::Done(toks_of(self.alloc, out)?, self.counter))),
             Some(Pending { call, written }) => {
+                self.todo.end_list();
                 let call = with_arg(call, written, Some(out))?;
                 self.next_arg(call)
             }
@@ -64,40 +61,70 @@ impl<'a> Machine<'a> {
     }
 
     /// Goes on to the next argument that is replaced by itself; where there is none, the call is replaced.
-    pub(crate) fn next_arg(&mut self, call: Call<'a>) -> Result<Turn, NoMemory>
-        requires valid { IsMachine self.old }
-        requires call { IsCall self.old.sets call }
-        ensures { IfOk result (λ turn. (e : expansion.Scope) → Turns e (around e self.old (ran_of_call e self.old.sets call.entry self.old.cost self.old.counter)) (weight_of_call call.entry + weight_beside self.old) self.new turn) }
+    fn next_arg(&mut self, call: Call<'a>) -> Result<Turn, NoMemory>
+        requires valid { IsMachineBeside self.old call.further }
+        requires call { IsCall self.old.sets call (length call.args.items) }
+        ensures { IfOk result (λ turn. (e : expansion.Scope) → Turns e (called_on e self.old call.entry) (weight self.old + 1) self.new turn) }
     {
         let mut call = call;
-        'further: while let Some(next) = call.further.pop_front() {
-            if next.replaced {
-                return self.begin(call, next.list);
+        'further: while call.further > 0 {
+            let name = parameter(call.definition, call.args.len());
+            if is_replaced(call.definition, name) {
+                return self.begin(call, name);
             }
-            call = with_arg(call, next.list, None)?;
+            call = self.take_arg(call)?;
         }
         self.finish(call)
     }
 
-    /// The list is replaced by itself, as an argument of the call.
-    fn begin(&mut self, call: Call<'a>, list: Vec<Marked>) -> Result<Turn, NoMemory>
-        requires valid { IsMachine self.old }
-        requires call { IsCall self.old.sets call }
-        requires list { AreMarked self.old.sets list.items }
-        ensures { IfOk result (λ turn. (e : expansion.Scope) → Turns e (around e self.old (resumed e (record { call = call_of self.old.sets call.entry; written = all_marked_of self.old.sets list.items }) (expands e (all_marked_of self.old.sets list.items) self.old.cost self.old.counter))) (length list.items + weight_of_call call.entry + weight_beside self.old + 1) self.new turn) }
+    /// The call's next argument, for the parameter of this name, comes to be replaced by itself.
+    fn begin(&mut self, call: Call<'a>, name: &[u8]) -> Result<Turn, NoMemory>
+        requires valid { IsMachineBeside self.old call.further }
+        requires call { IsCall self.old.sets call (length call.args.items) }
+        requires another { 0 < call.further }
+        requires name { name.now ≡ next_name call }
+        requires replaced { is_replaced call.definition.now name.now ≡ true }
+        ensures { IfOk result (λ turn. (e : expansion.Scope) → Turns e (called_on e self.old call.entry) (weight self.old + 1) self.new turn) }
     {
-        let written = copy_list(self.alloc, list.as_slice())?;
+        let mut call = call;
+        let written = self.kept_written(call.definition, name)?;
+        call.further -= 1;
         self.calls.push(Pending { call, written })?;
         self.out = Vec::new(self.alloc);
-        self.todo = Todo::of_list(list);
         Ok(Turn::Goes)
+    }
+
+    /// What a replacement may take of the list at work as it is written, where it is the argument for this parameter.
+    fn kept_written(&self, definition: &FunctionDef, name: &[u8]) -> Result<Vec<Marked>, NoMemory>
+        ensures { IfOk result (λ kept. kept.items ≡ kept_written definition.now name.now self.now.todo.first) }
+    {
+        if is_taken_as_written(definition, name) {
+            self.todo.copy_list(self.alloc)
+        } else {
+            Ok(Vec::new(self.alloc))
+        }
+    }
+
+    /// The call's next argument, which isn't replaced by itself, is done as it is written.
+    fn take_arg(&mut self, call: Call<'a>) -> Result<Call<'a>, NoMemory>
+        requires valid { IsMachineBeside self.old call.further }
+        requires call { IsCall self.old.sets call (length call.args.items) }
+        requires another { 0 < call.further }
+        requires kept { is_replaced call.definition.now (next_name call) ≡ false }
+        ensures { IfOk result (TakesArg self.old call.entry self.new) }
+    {
+        let mut call = call;
+        let list = self.todo.take_list(self.alloc)?;
+        call.further -= 1;
+        with_arg(call, list, None)
     }
 
     /// The call has its arguments, and its list comes in its place.
     fn finish(&mut self, call: Call<'a>) -> Result<Turn, NoMemory>
         requires valid { IsMachine self.old }
-        requires call { IsCall self.old.sets call }
-        ensures { IfOk result (λ turn. (e : expansion.Scope) → Turns e (around e self.old (call_ran e (call_of self.old.sets call.entry) (Args [] self.old.cost self.old.counter))) (weight_of_call call.entry + weight_beside self.old) self.new turn) }
+        requires call { IsCall self.old.sets call (length call.args.items) }
+        requires none { call.further ≡ 0 }
+        ensures { IfOk result (λ turn. (e : expansion.Scope) → Turns e (called_on e self.old call.entry) (weight self.old) self.new turn) }
     {
         let Call {
             definition,
@@ -106,10 +133,9 @@ impl<'a> Machine<'a> {
             args,
             further: _,
             before,
-            rest,
         } = call;
+        let args = all_args(self.alloc, definition, args)?;
         self.out = before;
-        self.todo = rest;
         let list = substitute_function(
             self.alloc,
             &mut self.sets,

@@ -10,8 +10,8 @@ ghost use Rattle.expansion.specs.States.{IsMachine, Turns, continued, scope_of, 
 use crate::built_ins::instead;
 use crate::machine::{Machine, Turn};
 use crate::scope::Scope;
-use crate::todo::Todo;
 use crate::token_tests::{is_close_paren, is_identifier, is_open_paren};
+use list_stack::ListStack;
 use scan_model::{Bytes, Kind, NoMemory};
 use substitution::Marked;
 
@@ -27,7 +27,7 @@ impl<'a> Machine<'a> {
     pub(crate) fn defined(&mut self, scope: &Scope<'a>, word: Marked) -> Result<Turn, NoMemory>
         requires valid { IsMachine self.old }
         requires word { IsMarked self.old.sets word }
-        ensures { IfOk result (Turns (scope_of scope.now) (continued (scope_of scope.now) self.old (defined_out (expands (scope_of scope.now)) (scope_of scope.now) (marked_of self.old.sets word) (all_marked_of self.old.sets self.old.todo) self.old.cost self.old.counter (defined_name (expands (scope_of scope.now)) (scope_of scope.now) (all_marked_of self.old.sets self.old.todo)))) (weight self.old + 1) self.new) }
+        ensures { IfOk result (Turns (scope_of scope.now) (continued (scope_of scope.now) self.old (defined_out (expands (scope_of scope.now)) (scope_of scope.now) (marked_of self.old.sets word) (all_marked_of self.old.sets self.old.todo.first) self.old.cost self.old.counter (defined_name (expands (scope_of scope.now)) (scope_of scope.now) (all_marked_of self.old.sets self.old.todo.first)))) (weight self.old + 1) self.new) }
     {
         let Some(found) = defined_name(&self.todo) else {
             return self.goes_out(word);
@@ -49,8 +49,8 @@ fn digit(is_defined: bool) -> &'static [u8]
 }
 
 /// None where the tokens are neither a name nor a name in parentheses.
-fn defined_name(todo: &Todo) -> Option<DefinedName<'_>>
-    ensures { option_map (λ d. (d.name.now, d.length)) result ≡ defined_at todo.now }
+fn defined_name(todo: &ListStack) -> Option<DefinedName<'_>>
+    ensures { option_map (λ d. (d.name.now, d.length)) result ≡ defined_at todo.now.first }
 {
     let Some(first) = todo.at(0) else {
         return None;

@@ -1,17 +1,15 @@
 //! Macro replacement ([cpp.replace], [cpp.rescan]): the tokens of a line or of text, with every macro replaced.
 #![tactic(auto)]
 
+mod args;
 mod built_ins;
 mod calls;
 mod copies;
-mod cuts;
 mod defined;
 mod machine;
 mod objects;
-mod parens;
 mod run;
 mod scope;
-mod todo;
 mod token_tests;
 mod turns;
 

@@ -7,23 +7,14 @@ ghost use Rattle.scan_model.specs.Expansion.{out, rescanned};
 ghost use Rattle.expansion_laws.specs.Turns.{expands};
 ghost use Rattle.expansion.specs.States.{IsMachine, Turns, continued, weight};
 
-use crate::todo::Todo;
 use hide_sets::{HideSet, HideSets};
+use list_stack::ListStack;
 use scan_model::{Expanded, FunctionDef, Items, NoMemory};
 use std::alloc::Global;
-use std::collections::VecDeque;
 use substitution::{Arg, Marked};
 
 /// What the replacements of one expansion may cost.
 pub(crate) const COST_LIMIT: u32 = 1_048_576;
-
-/// An argument as it is written.
-#[derive(Drop)]
-pub(crate) struct Written {
-    pub(crate) list: Vec<Marked>,
-    /// Whether it is replaced by itself too.
-    pub(crate) replaced: bool,
-}
 
 /// A call of a function-like macro that has its arguments cut ([cpp.subst]).
 #[derive(Drop)]
@@ -34,29 +25,30 @@ pub(crate) struct Call<'a> {
     pub(crate) close: HideSet,
     /// The arguments that are done.
     pub(crate) args: Vec<Arg>,
-    /// The arguments that follow.
-    pub(crate) further: VecDeque<Written>,
+    /// How many arguments follow: they, and then what follows the `)`, are lists of the machine's stack.
+    pub(crate) further: usize,
     /// What went out before the name, of the list in which the call stands.
     pub(crate) before: Vec<Marked>,
-    /// What follows the `)` in that list.
-    pub(crate) rest: Todo,
 }
 
 /// A call one of whose arguments is being replaced.
 #[derive(Drop)]
 pub(crate) struct Pending<'a> {
     pub(crate) call: Call<'a>,
-    /// That argument as it is written.
+    /// That argument as it is written, where the replacement may take it so.
     pub(crate) written: Vec<Marked>,
 }
 
 /// Macro replacement under way: a list of tokens from the left, and the calls for one of whose arguments that is done.
+///
+/// What is left of all lists stands in one stack, so that a call moves none of the tokens that it encloses: for each
+/// call, from the innermost on, its arguments that follow and then what follows its `)`.
 #[derive(Drop)]
 pub(crate) struct Machine<'a> {
     pub(crate) alloc: Global,
     pub(crate) sets: HideSets,
-    pub(crate) todo: Todo,
-    /// What went out of the list.
+    pub(crate) todo: ListStack,
+    /// What went out of the list at work.
     pub(crate) out: Vec<Marked>,
     /// The innermost call is the last.
     pub(crate) calls: Vec<Pending<'a>>,
@@ -76,7 +68,7 @@ impl<'a> Machine<'a> {
     pub(crate) fn goes_out(&mut self, token: Marked) -> Result<Turn, NoMemory>
         requires valid { IsMachine self.old }
         requires token { IsMarked self.old.sets token }
-        ensures { IfOk result (λ turn. (e : expansion.Scope) → Turns e (continued e self.old (out (marked_of self.old.sets token) (expands e (all_marked_of self.old.sets self.old.todo) self.old.cost self.old.counter))) (weight self.old + 1) self.new turn) }
+        ensures { IfOk result (λ turn. (e : expansion.Scope) → Turns e (continued e self.old (out (marked_of self.old.sets token) (expands e (all_marked_of self.old.sets self.old.todo.first) self.old.cost self.old.counter))) (weight self.old + 1) self.new turn) }
     {
         self.out.push(token)?;
         Ok(Turn::Goes)
@@ -91,7 +83,7 @@ impl<'a> Machine<'a> {
         requires valid { IsMachine self.old }
         requires list { IfSome list (AreMarked self.old.sets) }
         requires added { IsSet self.old.sets added }
-        ensures { IfOk result (λ turn. (e : expansion.Scope) → Turns e (continued e self.old (rescanned (expands e) e (hides_of self.old.sets added) (all_marked_of self.old.sets self.old.todo) self.old.cost self.old.counter (option_map (all_marked_of self.old.sets) list))) (weight self.old) self.new turn) }
+        ensures { IfOk result (λ turn. (e : expansion.Scope) → Turns e (continued e self.old (rescanned (expands e) e (hides_of self.old.sets added) (all_marked_of self.old.sets self.old.todo.first) self.old.cost self.old.counter (option_map (all_marked_of self.old.sets) list))) (weight self.old) self.new turn) }
     {
         let Some(list) = list else {
             return Ok(Turn::Ends(Expanded::Bad));

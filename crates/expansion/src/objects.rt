@@ -16,7 +16,7 @@ impl<'a> Machine<'a> {
     pub(crate) fn object(&mut self, body: &[Tok], name: Marked) -> Result<Turn, NoMemory>
         requires valid { IsMachine self.old }
         requires name { IsMarked self.old.sets name }
-        ensures { IfOk result (λ turn. (e : expansion.Scope) → Turns e (continued e self.old (rescanned (expands e) e (also name.tok.text (marked_of self.old.sets name).hides) (all_marked_of self.old.sets self.old.todo) self.old.cost self.old.counter (subst (object_call name.tok.line) name.tok.space body.now))) (weight self.old) self.new turn) }
+        ensures { IfOk result (λ turn. (e : expansion.Scope) → Turns e (continued e self.old (rescanned (expands e) e (also name.tok.text (marked_of self.old.sets name).hides) (all_marked_of self.old.sets self.old.todo.first) self.old.cost self.old.counter (subst (object_call name.tok.line) name.tok.space body.now))) (weight self.old) self.new turn) }
     {
         let list = substitute_object(self.alloc, &mut self.sets, body, &name.tok)?;
         let added = self

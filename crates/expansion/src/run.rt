@@ -6,8 +6,8 @@ ghost use Rattle.expansion.specs.Lists.{unhidden};
 use crate::copies::copy_tok;
 use crate::machine::{Machine, Turn};
 use crate::scope::Scope;
-use crate::todo::Todo;
 use hide_sets::{HideSet, HideSets};
+use list_stack::ListStack;
 use macro_table::Macros;
 use scan_model::{Expanded, Mode, NoMemory, Site, Tok};
 use std::alloc::Global;
@@ -32,7 +32,7 @@ pub fn expand(
     let mut machine = Machine {
         alloc,
         sets: HideSets::new(alloc),
-        todo: Todo::of_list(unhidden(alloc, toks)?),
+        todo: ListStack::of_list(alloc, unhidden(alloc, toks)?)?,
         out: Vec::new(alloc),
         calls: Vec::new(alloc),
         cost: 0,

@@ -5,6 +5,7 @@ use std::alloc::Global;
 use std::test::Fail;
 
 mod costs;
+mod nests;
 mod programs;
 
 /// A token whose kind its first byte tells. No space stands before a `(`, and one before all others.

@@ -1,7 +1,7 @@
 ghost use Rattle.std.specs.Prelude.{◌≡◌, [], ◌∷◌};
 ghost use Rattle.scan_model.specs.declared.token.Kind.TheVariants.{Ident};
 ghost use Rattle.scan_model.specs.Spelling.{spells};
-ghost use Rattle.scan_model.specs.TokenTests.{is_of, is_comma, is_open_paren, is_close_paren};
+ghost use Rattle.scan_model.specs.TokenTests.{is_of, is_open_paren, is_close_paren};
 
 use scan_model::{Kind, Tok};
 
@@ -9,12 +9,6 @@ pub(crate) fn is_identifier(tok: &Tok) -> bool
     ensures { result ≡ is_of Ident tok.now }
 {
     matches!(tok.kind, Kind::Ident)
-}
-
-pub(crate) fn is_comma(tok: &Tok) -> bool
-    ensures { result ≡ is_comma tok.now }
-{
-    matches!(tok.kind, Kind::Punct) && tok.text.as_slice() == b",".as_slice()
 }
 
 pub(crate) fn is_open_paren(tok: &Tok) -> bool

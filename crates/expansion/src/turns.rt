@@ -38,7 +38,7 @@ impl<'a> Machine<'a> {
     fn replace_name(&mut self, scope: &Scope<'a>, name: Marked) -> Result<Turn, NoMemory>
         requires valid { IsMachine self.old }
         requires name { IsMarked self.old.sets name }
-        ensures { IfOk result (Turns (scope_of scope.now) (continued (scope_of scope.now) self.old (by_def (expands (scope_of scope.now)) (scope_of scope.now) (marked_of self.old.sets name) (all_marked_of self.old.sets self.old.todo) self.old.cost self.old.counter ((scope_of scope.now).defs name.tok.text))) (weight self.old + 1) self.new) }
+        ensures { IfOk result (Turns (scope_of scope.now) (continued (scope_of scope.now) self.old (by_def (expands (scope_of scope.now)) (scope_of scope.now) (marked_of self.old.sets name) (all_marked_of self.old.sets self.old.todo.first) self.old.cost self.old.counter ((scope_of scope.now).defs name.tok.text))) (weight self.old + 1) self.new) }
     {
         match scope.macros.get(name.tok.text.as_slice()) {
             None => self.goes_out(name),

@@ -1,6 +1,6 @@
 -- A character at the front of what is left.
 use Rattle.std.proofs.Common.{◌≡◌, ℕ, get_or, false, None, zero, suc, ◌+◌, ◌-◌, ◌/◌, ◌%◌, ◌<◌, ◌≤◌, List, [], ◌∷◌, ◌++◌, refl, ap, sym, ◌∙◌, subst, inl, inr, ◌⊎◌, drop, take, length, length-append, arith, Some, set}
-use Rattle.std.proofs.lemmas.Bool.{cases_eq, cases_lt, and_from, le-leb, le-ltb, lt-ltb, false≢true}
+use Rattle.std.proofs.lemmas.Bool.{cases_eq, cases_lt, and_from, and_left, le-leb, le-ltb, lt-ltb, false≢true}
 use Rattle.std.specs.Prelude.{unwrap_or}
 use lib.Utf8.{scalar_cases}
 use Rattle.std.proofs.lemmas.List.{append_assoc, take-append-drop}
@@ -10,7 +10,7 @@ use Rattle.std.specs.Char.{encode_utf8, len_utf8, IsScalar}
 use Rattle.std.specs.Str.{IsUtf8}
 use Rattle.scan_model.specs.Spliced.{Spot, byte_at}
 use Rattle.scan_model.specs.Tokens.{bytes}
-use Rattle.lexeme_reader.specs.Character.{BeginsWith, NoCharacter, may_begin}
+use Rattle.lexeme_reader.specs.Character.{BeginsWith, NoCharacter, may_begin, may_lead}
 use Rattle.lexeme_reader.proofs.TextLemmas.{take_front}
 use Rattle.lexeme_reader.proofs.SpotLemmas.{bytes-take_more, bytes-first, bytes-take, bytes-cons, byte_at-none, length-bytes}
 
@@ -85,7 +85,7 @@ leads c scalar long = elim (cases_lt c 2048) [
 ]
 
 tells : (a b : ℕ) → may_begin a b ≡ false → 194 ≤ a → a ≤ 244 → 128 ≤ b → b ≤ 191 → ⊥
-tells a b fails h l k w = false≢true (sym fails ∙ and_from _ _ (and_from _ _ (and_from _ _ (le-leb 194 a h) (le-leb a 244 l)) (le-leb 128 b k)) (le-leb b 191 w))
+tells a b fails h l k w = false≢true (sym fails ∙ and_from _ _ (and_from _ _ (le-leb 194 a h) (le-leb a 244 l)) (and_from _ _ (le-leb 128 b k) (le-leb b 191 w)))
 
 -- such a character begins with two bytes of which the test tells
 pub not_begun : (t : List ℕ) (a b : ℕ) → get_or t 0 0 ≡ a → get_or t 1 0 ≡ b → 128 ≤ a → may_begin a b ≡ false → NoCharacter t
@@ -113,3 +113,6 @@ no_long_character s u a b here next second long fails =
       head : (v : List Spot) → get_or (bytes v) 0 0 ≡ unwrap_or (byte_at v) 0
       head [] = refl
       head (x ∷ v) = refl
+
+pub no_lead : (s : List Spot) (a : ℕ) → byte_at s ≡ Some a → 128 ≤ a → may_lead a ≡ false → NoCharacter (bytes s)
+no_lead s a here long fails = no_long_character s (drop 1 s) a _ here refl refl long (and_left (may_lead a) _ fails)

@@ -1,6 +1,6 @@
 -- The longest front that is a quoted literal.
 use Rattle.std.proofs.Common.{◌≡◌, ◌≢◌, ℕ, zero, suc, ◌+◌, ◌-◌, ◌<◌, ◌≤◌, Bool, true, false, not, cond, ◌==◌, ◌&&◌, ◌||◌, List, [], ◌∷◌, refl, ap, sym, ◌∙◌, inl, inr, is_some, drop, take, length, length-take, length-drop, slice_index, arith, Some, None, nat_eq}
-use Rattle.std.proofs.lemmas.Bool.{and_right, cases_eq, cases_lt, ne_eqb, eq-eqb, or_right, eqb-true, true≢false, cond_both}
+use Rattle.std.proofs.lemmas.Bool.{and_left, cases_Bool, and_right, cases_eq, cases_lt, ne_eqb, eq-eqb, or_right, eqb-true, true≢false, cond_both}
 use Rattle.std.proofs.lemmas.List.{drop-drop, drop-take, get_or-take, get_or_past}
 use Rattle.std.specs.Option.{option_map_or}
 use Rattle.scan_model.specs.Spliced.{Spot, byte_at}
@@ -28,6 +28,19 @@ encoding_len-bytes (a ∷ b ∷ s) = rw (eqb_swap a 117, eqb_swap b 56) (tidy (n
   tidy true true n = refl
   tidy true false n = refl
   tidy false y n = refl
+
+-- after another byte than `u` the second one is of no account
+pub encoding_of-first : (a b d : ℕ) → ((a == 117) ≡ true → b ≡ d) → encoding_of a b ≡ encoding_of a d
+encoding_of-first a b d same = elim (cases_Bool (a == 117)) [
+  | inl u ↦ ap (encoding_of a) (same u)
+  | inr other ↦ rw (and_left (a == 117) (b == 56) other, and_left (a == 117) (d == 56) other) refl
+]
+
+pub opening_of-first : (a b d : ℕ) → ((a == 82) ≡ true → b ≡ d) → opening_of a b ≡ opening_of a d
+opening_of-first a b d same = elim (cases_Bool (a == 82)) [
+  | inl raw ↦ ap (opening_of a) (same raw)
+  | inr other ↦ rw (and_left (a == 82) (b == 34) other, and_left (a == 82) (d == 34) other) refl
+]
 
 -- ## Where a prefix ends
 

@@ -1,11 +1,11 @@
-ghost use Rattle.std.specs.Prelude.{◌≡◌, ◌<◌, ◌≤◌, Some, length, drop, MatchOption};
+ghost use Rattle.std.specs.Prelude.{◌≡◌, ◌<◌, ◌≤◌, Some, IsFalse, length, drop, MatchOption};
 ghost use Rattle.std.specs.Char.{encode_utf8};
 ghost use Rattle.std.specs.Str.{IsUtf8};
 ghost use Rattle.line_splice.specs.Cursor.{text_of, rest};
 ghost use Rattle.scan_model.specs.Spliced.{byte_at};
 ghost use Rattle.scan_model.specs.Tokens.{bytes};
 ghost use Rattle.lexeme_reader.specs.Fronts.{line, character_len};
-ghost use Rattle.lexeme_reader.specs.Character.{may_begin, BeginsWith, NoCharacter};
+ghost use Rattle.lexeme_reader.specs.Character.{may_lead, may_begin, BeginsWith, NoCharacter};
 
 use crate::steps::pass_bytes;
 use line_splice::Cursor;
@@ -41,11 +41,18 @@ fn encoded_character(at: &Cursor<'_>) -> Option<char>
     None
 }
 
-// Whether a character of more than one byte may begin with these two bytes.
+// Whether a character of more than one byte may begin with the byte.
+fn may_lead(first: u8) -> bool
+    ensures { result ≡ may_lead first }
+{
+    (first >= 0xC2) & (first <= 0xF4)
+}
+
+// Whether one may begin with these two bytes.
 fn may_begin(first: u8, second: u8) -> bool
     ensures { result ≡ may_begin first second }
 {
-    (first >= 0xC2) & (first <= 0xF4) & (second >= 0x80) & (second <= 0xBF)
+    may_lead(first) & ((second >= 0x80) & (second <= 0xBF))
 }
 
 // The character of more than one byte that stands here, if one does: most bytes that begin none are told by the one that
@@ -56,6 +63,9 @@ fn long_character(at: &Cursor<'_>, first: u8) -> Option<char>
     ensures { MatchOption result (NoCharacter (bytes (rest at.now)))
         (λ c. BeginsWith c (bytes (rest at.now))) }
 {
+    if !may_lead(first) {
+        return None;
+    }
     let mut next = *at;
     next.advance();
     let second = next.peek().unwrap_or(0);
@@ -79,6 +89,16 @@ pub fn character(at: &Cursor<'_>) -> Option<char>
             }
         }
         None => None,
+    }
+}
+
+/// Whether a character of well-formed UTF-8 stands here.
+pub fn begins_character(at: &Cursor<'_>) -> bool
+    ensures { IsFalse result → NoCharacter (bytes (rest at.now)) }
+{
+    match character(at) {
+        Some(_) => true,
+        None => false,
     }
 }
 

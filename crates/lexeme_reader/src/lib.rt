@@ -11,7 +11,7 @@ mod raw;
 mod raw_text;
 mod steps;
 
-pub use character::pass_character;
+pub use character::{begins_character, pass_character};
 pub use header::pass_header;
 pub use name::{begins_name, pass_name};
 pub use number::{begins_number, pass_number};

@@ -6,7 +6,7 @@ ghost use Rattle.lexeme_reader.specs.Fronts.{line, Along};
 ghost use Rattle.lexeme_reader.specs.Quotes.{quote_byte, may_open, IsOpening, encoding_of, opening_of, PassesItems};
 
 use crate::name::pass_name;
-use crate::steps::{first_byte, pass_bytes, pass_until, second_byte};
+use crate::steps::{first_byte, pass_bytes, pass_until, second_if};
 use line_splice::Cursor;
 
 /// What a literal without `R` is quoted in.
@@ -53,7 +53,8 @@ pub fn encoding_len(at: &Cursor<'_>) -> usize
     ensures len { result ≡ encoding_len (line (rest at.now)) }
     ensures within { result ≤ length (rest at.now) }
 {
-    encoding_of(first_byte(at), second_byte(at))
+    let first = first_byte(at);
+    encoding_of(first, second_if(at, first == b'u'))
 }
 
 // Passes that prefix.
@@ -104,7 +105,8 @@ fn prefixed_literal_at(at: &Cursor<'_>) -> Option<Opening>
 {
     let mut next = *at;
     pass_encoding(&mut next);
-    opening_of(first_byte(&next), second_byte(&next))
+    let first = first_byte(&next);
+    opening_of(first, second_if(&next, first == b'R'))
 }
 
 // Passes what stands up to the next quote or backslash, if no backslash stands before.

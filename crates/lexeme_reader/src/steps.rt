@@ -75,6 +75,13 @@ pub fn second_byte(at: &Cursor<'_>) -> u8
     }
 }
 
+// The byte after the next one, where it is asked for.
+pub fn second_if(at: &Cursor<'_>, asked: bool) -> u8
+    ensures { IsTrue asked → result ≡ slice_index (line (rest at.now)) 1 }
+{
+    if asked { second_byte(at) } else { 0 }
+}
+
 // Passes the rest of the line.
 pub fn pass_line(at: &mut Cursor<'_>)
     ensures text { text_of at.new ≡ text_of at.old }

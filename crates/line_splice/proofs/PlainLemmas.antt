@@ -1,12 +1,14 @@
 -- Bytes that show as they are written.
 use Rattle.std.proofs.Common.{◌≡◌, ℕ, zero, suc, ◌+◌, ◌-◌, ◌<◌, ◌≤◌, true, false, ◌==◌, ◌||◌, List, [], ◌∷◌, refl, ap, sym, subst, ◌∙◌, take, drop, length, slice_index, get_or, length-drop, arith}
-use Rattle.std.proofs.lemmas.Bool.{eq-eqb, and_parts, or_parts, or_from, and_left, and_right, not-true}
+use Rattle.std.proofs.lemmas.Bool.{eq-eqb, ne_eqb, and_parts, or_parts, or_from, and_left, and_right, not-true}
 use Rattle.std.proofs.lemmas.List.{drop-drop, get_or-drop, take_rest}
 use Rattle.std.specs.List.{list_all}
 use Rattle.scan_model.specs.Spliced.{Spot, shown, spliced, is_hidden, at_newline, place_at, last_line}
 use Rattle.scan_model.specs.Tokens.{bytes}
 use Rattle.line_splice.specs.Rest.{at_splice, rest_of, Shows}
-use Rattle.line_splice.specs.Plain.{shows_itself, ahead_of}
+use Rattle.line_splice.specs.declared.cursor.Cursor.{Cursor}
+use Rattle.line_splice.specs.Cursor.{text_of, rest}
+use Rattle.line_splice.specs.Plain.{shows_itself, BeginsPlain, ahead_of}
 use Rattle.line_splice.proofs.ShownLemmas.{shown-before, front_byte, first_spot, place_is}
 
 -- the tests on such a byte
@@ -141,3 +143,44 @@ passed_ends text t last place line (suc n) hidden lines some r is same splice en
     let next = passed_plain text t last place line (suc n) hidden lines some r is same in
     let left = some_left text (place + suc n + hidden) (line + lines) c (passed_shows text t place (suc n) hidden is splice) c_plain in
     ap (last_line (line + lines)) next ∙ sym (last_line-drop (suc n) line (line + lines) (rest_of text place line last) (λ z. left (next ∙ z))) ∙ ends
+
+-- what a cursor shows of the bytes ahead
+pub written_ahead : (at : Cursor) (n : ℕ) → n ≤ length (ahead_of (text_of at) (rest at)) → list_all shows_itself (take n (ahead_of (text_of at) (rest at))) ≡ true
+    → bytes (take n (rest at)) ≡ take n (ahead_of (text_of at) (rest at))
+unfolding rest
+written_ahead at n within all = let text = at.text.now in
+    written_here text at.last at.place at.line n at.shows at.within (ready text at.last at.place at.line n at.shows at.within within all)
+
+-- ## One byte
+
+-- what shows after the first byte, and that no splice follows it
+pub record PassesOne (text : List ℕ) (last place line : ℕ) : Type 0 where
+  pub shows : at_splice (drop (place + 1) text) ≡ false
+  pub rest : rest_of text (place + 1) line (get_or text place 0) ≡ drop 1 (rest_of text place line last)
+  pub plain : shows_itself (get_or text place 0) ≡ true
+
+pub passes_one : (text : List ℕ) (last place line : ℕ) → BeginsPlain (drop place text) → PassesOne text last place line
+passes_one text last place line b =
+    let t = drop place text in
+    let first : get_or t 0 0 ≡ get_or text place 0 = get_or-drop place text 0 0 ∙ ap (λ k. get_or text k 0) (omega arith) in
+    let next : drop 1 t ≡ drop (place + 1) text = drop-drop 1 place text ∙ ap (λ k. drop k text) (omega arith) in
+    record {
+      shows = ap at_splice (sym next) ∙ no_splice t b.next;
+      rest = sym (after_written 0 last 0 place line t b.some (one t b.some b.plain) ∙ ap (λ c. shown c 0 (place + 1) line (drop 1 t)) first
+          ∙ ap (shown (get_or text place 0) 0 (place + 1) line) next);
+      plain = ap shows_itself (sym first) ∙ b.plain;
+    }
+  where
+    one : (t : List ℕ) → 0 < length t → shows_itself (slice_index t 0) ≡ true → list_all shows_itself (take 1 t) ≡ true
+    one [] some h = absurd (omega arith)
+    one (c ∷ t) some h = rw h refl
+
+    no_splice : (t : List ℕ) → (slice_index t 1 ≡ 92 → ⊥) → at_splice (drop 1 t) ≡ false
+    no_splice [] next = refl
+    no_splice (c ∷ t) next = and_left (slice_index t 0 == 92) (at_newline (drop 1 t)) (ne_eqb (slice_index t 0) 92 next)
+
+pub one_ends : (text : List ℕ) (last place line : ℕ) → PassesOne text last place line → last_line line (rest_of text place line last) ≡ last_line 1 (spliced text)
+    → last_line line (rest_of text (place + 1) line (get_or text place 0)) ≡ last_line 1 (spliced text)
+one_ends text last place line p ends =
+    let left = some_left text (place + 1) line (get_or text place 0) p.shows p.plain in
+    ap (last_line line) p.rest ∙ sym (last_line-drop 1 line line (rest_of text place line last) (λ z. left (p.rest ∙ z))) ∙ ends

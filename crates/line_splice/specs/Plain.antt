@@ -1,5 +1,5 @@
 -- Bytes that show as they are written.
-use Rattle.std.specs.Prelude.{ℕ, Bool, not, ◌||◌, ◌==◌, List, drop}
+use Rattle.std.specs.Prelude.{◌≡◌, ◌<◌, ℕ, Bool, true, not, ◌||◌, ◌==◌, List, slice_index, drop, length}
 use Rattle.scan_model.specs.Spliced.{Spot, place_at}
 
 -- neither a backslash nor in a newline, so that phase 2 leaves the byte as it is
@@ -9,3 +9,9 @@ shows_itself c = not (c == 92 || c == 13 || c == 10)
 -- the text as it is written from the place of the next byte on
 abbrev pub ahead_of : List ℕ → List Spot → List ℕ
 ahead_of text spots = drop (place_at text spots) text
+
+-- such a byte comes first, and no backslash follows it
+pub record BeginsPlain (text : List ℕ) : Type 0 where
+  pub some : 0 < length text
+  pub plain : shows_itself (slice_index text 0) ≡ true
+  pub next : slice_index text 1 ≡ 92 → ⊥

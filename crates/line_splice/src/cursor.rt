@@ -4,7 +4,7 @@ ghost use Rattle.scan_model.specs.Tokens.{bytes};
 ghost use Rattle.scan_model.specs.Spliced.{spliced, last_line, byte_at, line_at, place_at};
 ghost use Rattle.line_splice.specs.Rest.{at_splice, rest_of};
 
-use crate::splices::{front, mark_len, splices_len};
+use crate::splices::{begins_plain, front, mark_len, splices_len};
 
 /// A place among the bytes of a text that show after phase 2 ([lex.phases]): without a byte order mark, with each
 /// backslash that stands before a newline taken away with it, with LF for CR LF, and with an LF added where the last
@@ -133,6 +133,25 @@ impl<'a> Cursor<'a> {
     /// Passes the next byte.
     #[tactic(auto, unfolding(crate::specs::Cursor::rest))]
     pub fn advance(&mut self)
+        requires { rest self.old ≢ [] }
+        ensures text { text_of self.new ≡ text_of self.old }
+        ensures rest { rest self.new ≡ drop 1 (rest self.old) }
+    {
+        if begins_plain(&self.text[self.place..]) {
+            *self = Cursor {
+                text: self.text,
+                place: self.place + 1,
+                line: self.line,
+                last: self.text[self.place],
+            };
+        } else {
+            self.advance_any();
+        }
+    }
+
+    // The same, whatever stands here.
+    #[tactic(auto, unfolding(crate::specs::Cursor::rest))]
+    fn advance_any(&mut self)
         requires { rest self.old ≢ [] }
         ensures text { text_of self.new ≡ text_of self.old }
         ensures rest { rest self.new ≡ drop 1 (rest self.old) }

@@ -1,6 +1,6 @@
-ghost use Rattle.std.specs.Prelude.{◌≡◌, ◌+◌, ◌≤◌, ℕ, length, drop, IsFalse, MatchOption};
+ghost use Rattle.std.specs.Prelude.{◌≡◌, ◌+◌, ◌≤◌, ℕ, length, drop, IsTrue, IsFalse, MatchOption};
 ghost use Rattle.scan_model.specs.Spliced.{shown, mark_len};
-ghost use Rattle.line_splice.specs.Plain.{shows_itself};
+ghost use Rattle.line_splice.specs.Plain.{shows_itself, BeginsPlain};
 ghost use Rattle.line_splice.specs.Rest.{at_splice, newline_len, IsEnd, Shows};
 
 // How many bytes the newline takes that the text begins with, or 0.
@@ -44,6 +44,13 @@ fn shows_itself(byte: u8) -> bool
     ensures { result ≡ shows_itself byte }
 {
     !((byte == b'\\') | (byte == b'\r') | (byte == b'\n'))
+}
+
+// Whether the text begins with a byte that phase 2 leaves as it is, and no splice follows it.
+pub fn begins_plain(text: &[u8]) -> bool
+    ensures { IsTrue result → BeginsPlain text.now }
+{
+    text.len() > 1 && shows_itself(text[0]) && text[1] != b'\\'
 }
 
 // The byte that shows first, how many bytes of the text it takes, and how many lines it ends. The byte that showed

@@ -41,7 +41,7 @@ name_first c t h = elim (cases_lt c 128) [
 abbrev pub begins_digits : List ℕ → Bool
 begins_digits s = is_ascii_digit (slice_index s 0) || (slice_index s 0 == 46 && is_ascii_digit (slice_index s 1))
 
-digit_small : (c : ℕ) → is_ascii_digit c ≡ true → c < 128
+pub digit_small : (c : ℕ) → is_ascii_digit c ≡ true → c < 128
 digit_small c h = let both = and_parts (nat_le 48 c) (nat_le c 57) h in let le : c ≤ 57 = leb-true c 57 both.1 in omega arith
 
 digit_next : (ds : List ℕ) → is_ascii_digit (first ds) ≡ true → is_ascii_digit (slice_index (encode_utf8_all ds) 0) ≡ true

@@ -1,15 +1,23 @@
 -- The first bytes of a line, read into a window of four.
-use Rattle.std.proofs.Common.{◌≡◌, ℕ, zero, suc, ◌+◌, ◌<◌, ◌≤◌, true, false, List, [], ◌∷◌, refl, ap, sym, ◌∙◌, take, drop, length, length-drop, slice_set, arith}
+use Rattle.std.proofs.Common.{◌≡◌, Bool, not, ◌&&◌, ◌==◌, ◌++◌, slice_index, subst, length-take-le, ℕ, zero, suc, ◌+◌, ◌<◌, ◌≤◌, true, false, List, [], ◌∷◌, refl, ap, sym, ◌∙◌, take, drop, length, length-drop, slice_set, arith}
 use Rattle.std.specs.Prelude.{unwrap_or}
-use Rattle.std.proofs.lemmas.Bool.{eq-eqb, ne_eqb, true≢false, cond_both}
+use Rattle.std.proofs.lemmas.Bool.{eq-eqb, ne_eqb, true≢false, cond_both, and_parts, and_from}
+use Rattle.std.proofs.lemmas.List.{take-append-drop}
+use Rattle.std.specs.List.{list_all}
 use Rattle.scan_model.specs.Spliced.{Spot, byte_at}
 use Rattle.scan_model.specs.Spelling.{is_one_of, punctuators, longest}
-use Rattle.scan_model.specs.Tokens.{bytes, is_lone_less}
+use Rattle.scan_model.specs.Tokens.{bytes, is_lone_less, rest_of_line}
 use Rattle.scan_model.proofs.RestLemmas.{rest_of_line-cons, rest_of_line-newline, rest_of_line-nil}
 use Rattle.scan_model.proofs.LongestLemmas.{longest_le}
 use Rattle.lexeme_reader.specs.Fronts.{line}
-use Rattle.lexeme_reader.proofs.LineLemmas.{length-rest_of_line}
-use Rattle.lexeme_reader.proofs.SpotLemmas.{length-bytes}
+use Rattle.lexeme_reader.proofs.LineLemmas.{length-rest_of_line, rest_of_line-append}
+use Rattle.lexeme_reader.proofs.RunLemmas.{list_all-weaker}
+use Rattle.lexeme_reader.proofs.SpotLemmas.{length-bytes, bytes-take}
+use Rattle.lexeme_reader.proofs.TextLemmas.{take_front}
+use Rattle.line_splice.specs.declared.cursor.Cursor.{Cursor}
+use Rattle.line_splice.specs.Cursor.{text_of, rest}
+use Rattle.line_splice.specs.Plain.{shows_itself, ahead_of}
+use Rattle.line_splice.proofs.PlainLemmas.{plain, written_ahead}
 use Rattle.word_table.specs.Rows.{longest_row}
 use Rattle.word_table.specs.Tables as tables
 use Rattle.pp_lexer.specs.Reads.{mark_len}
@@ -86,3 +94,32 @@ mark_row s w n e h len =
 
 pub mark_le : (s : List ℕ) → mark_len s ≤ length s
 mark_le s = cond_both (is_lone_less s) 1 (longest (is_one_of punctuators) s) (λ n. n ≤ length s) (λ e. lone_some s e) (λ e. longest_le (is_one_of punctuators) s)
+
+-- ## Four bytes as they are written
+
+pub four_show : (w : List ℕ) (a b c d : Bool) → 4 ≤ length w → a ≡ shows_itself (slice_index w 0) → b ≡ shows_itself (slice_index w 1) → c ≡ shows_itself (slice_index w 2)
+    → d ≡ shows_itself (slice_index w 3) → (a && b && c && d) ≡ true → list_all shows_itself (take 4 w) ≡ true
+four_show [] a b c d long p q r s h = absurd (omega arith)
+four_show (e ∷ []) a b c d long p q r s h = absurd (omega arith)
+four_show (e ∷ f ∷ []) a b c d long p q r s h = absurd (omega arith)
+four_show (e ∷ f ∷ g ∷ []) a b c d long p q r s h = absurd (omega arith)
+four_show (e ∷ f ∷ g ∷ i ∷ w) a b c d long p q r s h =
+    let three = and_parts (a && b && c) d h in
+    let two = and_parts (a && b) c three.0 in
+    let one = and_parts a b two.0 in
+    and_from _ _ (sym p ∙ one.0) (and_from _ _ (sym q ∙ one.1) (and_from _ _ (sym r ∙ two.1) (and_from _ true (sym s ∙ three.1) refl)))
+
+-- the line begins with the bytes that are written
+pub line_written : (s : List Spot) (n : ℕ) (w : List ℕ) → n ≤ length w → list_all shows_itself (take n w) ≡ true → bytes (take n s) ≡ take n w → take n w ≡ take n (line s)
+line_written s n w long all same =
+    let front = take n w in
+    let whole : bytes s ≡ front ++ drop n (bytes s) = sym (take-append-drop n (bytes s)) ∙ ap (λ t. t ++ drop n (bytes s)) (bytes-take s n ∙ same) in
+    let on_line : line s ≡ front ++ rest_of_line (drop n (bytes s)) = ap rest_of_line whole
+    ∙ rest_of_line-append front (drop n (bytes s)) (list_all-weaker shows_itself (λ c. not (c == 10)) front (λ c h. ap not (plain c h).lf) all) in
+    sym (ap (take n) on_line ∙ ap (λ k. take k (front ++ rest_of_line (drop n (bytes s)))) (sym (length-take-le n w long)) ∙ take_front front (rest_of_line (drop n (bytes s))))
+
+-- by the cursor
+pub line_ahead_written : (at : Cursor) (n : ℕ) (w : List ℕ) → w ≡ ahead_of (text_of at) (rest at) → n ≤ length w → list_all shows_itself (take n w) ≡ true → take n w ≡ take n (line (rest at))
+line_ahead_written at n w is long all =
+    line_written (rest at) n w long all
+    (written_ahead at n (subst (λ t. n ≤ length t) is long) (ap (λ t. list_all shows_itself (take n t)) (sym is) ∙ all) ∙ ap (take n) (sym is))

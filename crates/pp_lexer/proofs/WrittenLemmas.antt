@@ -1,11 +1,12 @@
 -- Bytes that show as they are written.
-use Rattle.std.proofs.Common.{◌≡◌, ℕ, zero, suc, ◌+◌, ◌-◌, ◌<◌, ◌≤◌, true, false, ◌==◌, ◌||◌, List, [], ◌∷◌, refl, ap, sym, subst, ◌∙◌, inl, inr, take, drop, length, length-drop, arith}
-use Rattle.std.proofs.lemmas.Bool.{and_parts, or_parts, or_from, and_left, and_right, not-true, cases_order}
+use Rattle.std.proofs.Common.{◌≡◌, ℕ, zero, suc, ◌+◌, ◌-◌, ◌<◌, ◌≤◌, true, List, [], ◌∷◌, refl, ap, sym, subst, ◌∙◌, inl, inr, take, drop, length, length-drop, arith}
+use Rattle.std.proofs.lemmas.Bool.{and_parts, cases_order}
 use Rattle.std.specs.List.{list_all}
 use Rattle.line_splice.specs.declared.cursor.Cursor.{Cursor}
 use Rattle.line_splice.specs.Cursor.{text_of, rest}
+use Rattle.line_splice.proofs.PlainLemmas.{plain, not_newline, not_hidden}
 use Rattle.line_splice.proofs.ShownLemmas.{place_is}
-use Rattle.scan_model.specs.Spliced.{Spot, shown, is_hidden, at_newline, place_at}
+use Rattle.scan_model.specs.Spliced.{Spot, shown, place_at}
 use Rattle.scan_model.specs.Tokens.{bytes}
 use Rattle.pp_lexer.specs.Reads.{passed, IsAhead, shows_itself}
 use Rattle.pp_lexer.proofs.PlaceLemmas.{Rises, shown_rises, above, place_later}
@@ -15,25 +16,6 @@ record Written (n place : ℕ) (t : List ℕ) (text : List ℕ) (s : List Spot) 
   same : bytes (take n s) ≡ take n t
   further : Rises (place + n) (drop n s)
   nearer : (i : ℕ) → i < n → place_at text (drop i s) < place + n
-
-record Plain (c : ℕ) : Type 0 where
-  backslash : (c == 92) ≡ false
-  cr : (c == 13) ≡ false
-  lf : (c == 10) ≡ false
-
-plain : (c : ℕ) → shows_itself c ≡ true → Plain c
-plain c h =
-    let all = or_parts (c == 92 || c == 13) (c == 10) (not-true (c == 92 || c == 13 || c == 10) h) in
-    let two = or_parts (c == 92) (c == 13) all.0 in
-    record { backslash = two.0; cr = two.1; lf = all.1 }
-
-not_newline : (c : ℕ) (t : List ℕ) → Plain c → at_newline (c ∷ t) ≡ false
-not_newline c t p = rw (p.lf, p.cr) refl
-
-not_hidden : (before c : ℕ) (t : List ℕ) → Plain c → is_hidden before c t ≡ false
-not_hidden before c t p =
-    let nl = not_newline c t p in
-    or_from _ _ (or_from _ _ (and_left (c == 92) (at_newline t) p.backslash) (and_right (before == 92) (at_newline (c ∷ t)) nl)) (and_right (before == 13) (c == 10) p.lf)
 
 -- one more
 more : (n place line : ℕ) (c : ℕ) (t text : List ℕ) (s : List Spot) → Written n (place + 1) t text s → Written (suc n) place (c ∷ t) text (record { byte = c; place = place; line = line } ∷ s)

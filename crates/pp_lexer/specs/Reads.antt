@@ -4,11 +4,13 @@ use Rattle.std.specs.Prelude.{◌≡◌, nat_eq, if◌then◌else◌, nat_lt, �
 use Rattle.scan_model.specs.declared.token.Kind.{Kind}
 use Rattle.scan_model.specs.declared.token.Kind.TheVariants.{Punct, Stray}
 use Rattle.scan_model.specs.declared.token.Tok.{Tok}
-use Rattle.scan_model.specs.Spelling.{is_one_of, punctuators, longest}
+use Rattle.std.specs.Char.{is_ascii_digit, is_ascii_alphabetic}
+use Rattle.scan_model.specs.Spelling.{is_name, is_number, opens, opens_raw, is_one_of, punctuators, longest}
 use Rattle.scan_model.specs.Spliced.{Spot}
 use Rattle.scan_model.specs.Tokens.{Lexeme, bytes, cut, after_blanks, is_token, kind_of, is_open, is_lone_less, next_token, wants_header}
 use Rattle.scan_model.specs.Lines.{tok}
 use Rattle.lexeme_reader.specs.Fronts.{line, character_len}
+pub use Rattle.line_splice.specs.Plain.{shows_itself}
 
 -- the token after `before` where the spots stand, and what is left after it
 abbrev pub GivesToken : List ℕ → List Tok → List Spot → Option Tok → List Spot → Type 0
@@ -65,6 +67,19 @@ unquoted spots =
 abbrev pub not_raw : List Spot → Lexeme
 not_raw spots = if is_open (line spots) then cut Stray (length (line spots)) spots else unquoted spots
 
--- neither a backslash nor in a newline, so that phase 2 leaves the byte as it is
-abbrev pub shows_itself : ℕ → Bool
-shows_itself c = not (c == 92 || c == 13 || c == 10)
+-- a byte with which neither a name, a number nor a literal begins: of ASCII, no letter, digit, `_`, `$`, `.`, `'` or `"`
+abbrev pub is_quiet : ℕ → Bool
+is_quiet c = nat_lt c 128 && not ((is_ascii_alphabetic c || c == 95 || c == 36) || (is_ascii_digit c || c == 46) || c == 39 || c == 34)
+
+-- so none of them stands at the front of a line
+pub record StandsQuiet (s : List ℕ) : Type 0 where
+  pub single : opens 39 s ≡ false
+  pub double : opens 34 s ≡ false
+  pub raw : opens_raw s ≡ false
+  pub names : longest is_name s ≡ 0
+  pub numbers : longest is_number s ≡ 0
+
+-- a byte that is a token by itself, whatever follows: a bracket, `;`, `,`, `?`, `~`, or one that no token but a stray one has
+abbrev pub is_alone : ℕ → Bool
+is_alone c = nat_lt c 128
+    && ((c == 123 || c == 125 || c == 91 || c == 93 || c == 40 || c == 41) || (c == 59 || c == 44 || c == 63 || c == 126) || (nat_lt c 32 || c == 64 || c == 96 || c == 92 || c == 127))

@@ -3,6 +3,7 @@ ghost use Rattle.line_splice.specs.Cursor.{text_of, rest};
 ghost use Rattle.scan_model.specs.Spelling.{is_blank};
 ghost use Rattle.scan_model.specs.Tokens.{begins, first_is_blank, from_newline, after_comment, next_blank, after_blanks};
 
+use lexeme_reader::pass_until;
 use line_splice::Cursor;
 
 fn is_blank(byte: u8) -> bool
@@ -33,11 +34,14 @@ fn is_next(at: &Cursor<'_>, byte: u8) -> bool
 fn begins(at: &Cursor<'_>, first: u8, second: u8) -> bool
     ensures { result ≡ begins (first ∷ second ∷ []) (rest at.now) }
 {
-    let mut next = *at;
-    match next.peek() {
+    match at.peek() {
         Some(byte) => {
+            if byte != first {
+                return false;
+            }
+            let mut next = *at;
             next.advance();
-            (byte == first) & is_next(&next, second)
+            is_next(&next, second)
         }
         None => false,
     }
@@ -53,6 +57,7 @@ fn pass_line(at: &mut Cursor<'_>)
             break;
         }
         at.advance();
+        pass_until(at, b'\n');
     }
 }
 
@@ -68,6 +73,7 @@ fn pass_comment(at: &mut Cursor<'_>)
             break;
         }
         at.advance();
+        pass_until(at, b'*');
     }
 }
 

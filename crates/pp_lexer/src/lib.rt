@@ -2,6 +2,7 @@
 //! ([cpp.concat]).
 #![tactic(auto)]
 
+mod alone;
 mod blanks;
 mod header_names;
 mod lexeme;

@@ -1,1 +1,1 @@
-mod FirstLemmas
+pub mod FirstLemmas

@@ -1,7 +1,7 @@
 use Rattle.std.proofs.Common.{◌∙◌, [], ap, sym, refl}
 use Rattle.line_splice.specs.Cursor.{rest}
 use Rattle.scan_model.specs.Tokens.{lexeme}
-use Rattle.pp_lexer.proofs.PassingLemmas.{wants_header-nil, passes_none, passes_some}
+use Rattle.pp_lexer.proofs.PassingLemmas.{passes_none, passes_some}
 use Rattle.pp_lexer.proofs.passing.pass_token.Goals as goal
 
 pub returns-then-not-is_on_line-clause-passed : goal.returns-then-not-is_on_line-clause-passed
@@ -11,5 +11,5 @@ returns-then-not-is_on_line-clause-passed c =
 pub returns-clause-passed : goal.returns-clause-passed
 returns-clause-passed c =
     let at = rest c.pass_blanks.new.at in
-    passes_some c.args.at.now.text.now (rest c.args.at.now) at (rest c.pass_lexeme.new.at) _ c.pass_blanks.ensures.rest (sym c.is_on_line.ensures ∙ c.if-not-is_on_line.false)
-    (ap (λ t. lexeme t [] at) (sym c.pass_blanks.ensures.text) ∙ c.pass_lexeme.ensures.lexeme [] wants_header-nil) refl
+    passes_some c.args.at.now.text.now (rest c.args.at.now) at (rest c.pass_any.new.at) _ c.pass_blanks.ensures.rest (sym c.is_on_line.ensures ∙ c.if-not-is_on_line.false)
+    refl (c.pass_any.ensures.left ∙ ap (λ t. (lexeme t [] at).left) c.pass_blanks.ensures.text)

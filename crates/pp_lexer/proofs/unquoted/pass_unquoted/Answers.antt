@@ -1,14 +1,13 @@
-use Rattle.std.proofs.Common.{◌≡◌, ◌≤◌, ◌∙◌, ap, sym, length, arith}
+use Rattle.std.proofs.Common.{◌∙◌, ap, sym}
 use Rattle.line_splice.specs.Cursor.{rest}
-use Rattle.lexeme_reader.specs.Fronts.{line, character_len}
-use Rattle.scan_model.specs.declared.token.Kind.TheVariants.{Number, Punct, Stray}
+use Rattle.lexeme_reader.specs.Fronts.{line}
+use Rattle.scan_model.specs.declared.token.Kind.TheVariants.{Number}
 use Rattle.scan_model.specs.Spelling.{is_name, is_number, longest}
 use Rattle.scan_model.specs.Tokens.{cut}
 use Rattle.scan_model.proofs.LongestLemmas.{longest_le}
-use Rattle.pp_lexer.specs.Reads.{mark_len, unquoted}
+use Rattle.pp_lexer.specs.Reads.{unquoted}
 use Rattle.pp_lexer.proofs.ChoiceLemmas.{Unquoted}
-use Rattle.pp_lexer.proofs.MarkLemmas.{mark_le}
-use Rattle.pp_lexer.proofs.UnquotedLemmas.{line_ahead, shown_cut, name_chosen, number_chosen, mark_chosen, stray_chosen, character_le, tested_some, tested_none}
+use Rattle.pp_lexer.proofs.UnquotedLemmas.{line_ahead, shown_cut, name_chosen, number_chosen, tested_some, tested_none}
 use Rattle.pp_lexer.proofs.unquoted.pass_unquoted.Goals as goal
 
 pub pass_word-requires : goal.pass_word-requires
@@ -41,34 +40,11 @@ returns-then-begins_number-clause-lexeme c =
     shown_cut c.args.at.now (longest is_number s) (rest c.pass_number.new.at) (unquoted spots) Number c.requires.some (longest_le is_number s) c.pass_number.ensures.rest
     (number_chosen spots u names some)
 
-pub returns-then-len-gt0-clause-ahead : goal.returns-then-len-gt0-clause-ahead
-returns-then-len-gt0-clause-ahead c = let s = line (rest c.args.at.now) in
-    let le : c.mark_len-len.result ≤ length s = omega (arith, c.mark_len-len.ensures.len, mark_le s) in
-    (line_ahead c.args.at.now c.mark_len-len.result (rest c.pass_bytes.new.at) c.requires.some le c.pass_bytes.ensures.rest).0
-
-pub returns-then-len-gt0-clause-lexeme : goal.returns-then-len-gt0-clause-lexeme
-returns-then-len-gt0-clause-lexeme c =
-    let spots = rest c.args.at.now in
-    let s = line spots in
-    let u : Unquoted s = record { single = c.requires.single; double = c.requires.double } in
-    let names = tested_none (longest is_name s) c.begins_name.result c.begins_name.ensures c.if-begins_name.false in
-    let numbers = tested_none (longest is_number s) c.begins_number.result c.begins_number.ensures c.if-begins_number.false in
-    let len : c.mark_len-len.result ≡ mark_len s = c.mark_len-len.ensures.len in
-    let le : c.mark_len-len.result ≤ length s = omega (arith, len, mark_le s) in
-    shown_cut c.args.at.now c.mark_len-len.result (rest c.pass_bytes.new.at) (unquoted spots) Punct c.requires.some le c.pass_bytes.ensures.rest
-    (mark_chosen spots u names numbers (omega (arith, len, c.if-len-gt0.true)) ∙ ap (λ k. cut Punct k spots) (sym len))
-
-pub returns-clause-ahead : goal.returns-clause-ahead
-returns-clause-ahead c = let s = line (rest c.args.at.now) in
-    (line_ahead c.args.at.now (character_len s) (rest c.pass_character.new.at) c.requires.some (character_le s c.requires.some) c.pass_character.ensures.rest).0
-
-pub returns-clause-lexeme : goal.returns-clause-lexeme
-returns-clause-lexeme c =
-    let spots = rest c.args.at.now in
-    let s = line spots in
-    let u : Unquoted s = record { single = c.requires.single; double = c.requires.double } in
-    let names = tested_none (longest is_name s) c.begins_name.result c.begins_name.ensures c.if-begins_name.false in
-    let numbers = tested_none (longest is_number s) c.begins_number.result c.begins_number.ensures c.if-begins_number.false in
-    let len : c.mark_len-len.result ≡ mark_len s = c.mark_len-len.ensures.len in
-    shown_cut c.args.at.now (character_len s) (rest c.pass_character.new.at) (unquoted spots) Stray c.requires.some (character_le s c.requires.some) c.pass_character.ensures.rest
-    (stray_chosen spots u names numbers (omega (arith, len, c.if-len-gt0.false)))
+pub pass_mark-requires : goal.pass_mark-requires
+pass_mark-requires c = let s = line (rest c.args.at.now) in record {
+  some = c.requires.some;
+  single = c.requires.single;
+  double = c.requires.double;
+  names = tested_none (longest is_name s) c.begins_name.result c.begins_name.ensures c.if-begins_name.false;
+  numbers = tested_none (longest is_number s) c.begins_number.result c.begins_number.ensures c.if-begins_number.false;
+}

@@ -40,7 +40,7 @@ returns-in-HasInclude c =
     let m = c.args.self.now in
     let e = scope_of c.args.scope.now in
     turns-at c.goes_out.result e _ _ _ _ _
-    (ap (λ (b : BuiltIn). continued e m (built_in (expands e) e b (marked_of m.sets c.args.name) (all_marked_of m.sets m.todo) m.cost m.counter)) (sym c.in-HasInclude.is))
+    (ap (λ (b : BuiltIn). continued e m (built_in (expands e) e b (marked_of m.sets c.args.name) (all_marked_of m.sets m.todo.first) m.cost m.counter)) (sym c.in-HasInclude.is))
     (omega arith) c.goes_out.ensures
 
 pub returns-in-HasAttribute : goal.returns-in-HasAttribute
@@ -48,5 +48,5 @@ returns-in-HasAttribute c =
     let m = c.args.self.now in
     let e = scope_of c.args.scope.now in
     turns-at c.goes_out-in-HasAttribute.result e _ _ _ _ _
-    (ap (λ (b : BuiltIn). continued e m (built_in (expands e) e b (marked_of m.sets c.args.name) (all_marked_of m.sets m.todo) m.cost m.counter)) (sym c.in-HasAttribute.is))
+    (ap (λ (b : BuiltIn). continued e m (built_in (expands e) e b (marked_of m.sets c.args.name) (all_marked_of m.sets m.todo.first) m.cost m.counter)) (sym c.in-HasAttribute.is))
     (omega arith) c.goes_out-in-HasAttribute.ensures

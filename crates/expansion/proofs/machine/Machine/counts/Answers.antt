@@ -24,7 +24,7 @@ returns c =
     let m = c.args.self.now in
     let e = scope_of c.args.scope.now in
     turns-at c.goes_out.result e _ _ _ _ _
-    (ap (λ (t : spec.Marked). continued e m (out t (expands e (all_marked_of m.sets m.todo) (m.cost + 2) (m.counter + 1))))
+    (ap (λ (t : spec.Marked). continued e m (out t (expands e (all_marked_of m.sets m.todo.first) (m.cost + 2) (m.counter + 1))))
     (c.instead.ensures.value m.sets ∙ ap (λ (t : List ℕ). instead Number t (marked_of m.sets c.args.name)) c.in_ok-text.ensures)
     ∙ ap (continued e m) (sym (choose-true (in_text c.args.scope.now.mode) _ _ (sym c.is_text.ensures ∙ c.if-not-is_text.false)
     ∙ paid-within (m.cost + 2) _ (omega (arith, c.if-self-gt-COST_LIMIT.false)))))

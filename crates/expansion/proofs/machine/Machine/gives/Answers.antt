@@ -16,6 +16,6 @@ pub returns : goal.returns
 returns c =
     let m = c.args.self.now in
     turns-along c.goes_out.result _ _ _ _ _
-    (λ e. ap (λ (t : spec.Marked). continued e m (out t (expands e (all_marked_of m.sets m.todo) (m.cost + 2) m.counter))) (c.instead.ensures.value m.sets)
+    (λ e. ap (λ (t : spec.Marked). continued e m (out t (expands e (all_marked_of m.sets m.todo.first) (m.cost + 2) m.counter))) (c.instead.ensures.value m.sets)
     ∙ ap (continued e m) (sym (paid-within (m.cost + 2) _ (omega (arith, c.if-self-gt-COST_LIMIT.false)))))
     (omega arith) c.goes_out.ensures

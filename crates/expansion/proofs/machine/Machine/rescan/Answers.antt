@@ -12,4 +12,4 @@ returns-then-length-self c = λ e. rescan-too_long e c.args.self.now _ c.args.li
 pub returns : goal.returns
 returns c =
     let same : length c.as_slice-length.result.now ≡ length c.in-Some.list = ap length c.as_slice-length.ensures in
-    λ e. rescan-goes e c.args.self.now c.args.added c.args.list c.in-Some.list _ _ _ c.requires.valid c.in-Some.is (omega arith) (omega arith) c.put_before.ensures.extended c.in_ok-put_before.ensures.value
+    λ e. rescan-goes e c.args.self.now c.args.added c.args.list c.in-Some.list _ _ _ c.requires.valid c.in-Some.is (omega arith) (omega arith) c.put_before.ensures.extended c.in_ok-put_before.ensures.value c.in_ok-put_before.ensures.others
