@@ -17,7 +17,7 @@ pub use name::{begins_name, pass_name};
 pub use number::{begins_number, pass_number};
 pub use quoted::{Opening, Quote, literal_at, pass_quoted};
 pub use raw::{RawParts, RawSpelling, pass_raw};
-pub use steps::{pass_bytes, pass_until};
+pub use steps::{pass_bytes, pass_until, second_byte};
 
 #[cfg(test)]
 mod tests;

@@ -58,7 +58,7 @@ pub fn first_byte(at: &Cursor<'_>) -> u8
     }
 }
 
-// The byte after the next one of the line, or 0 where there is none.
+/// The byte after the next one of the line, or 0 where there is none.
 pub fn second_byte(at: &Cursor<'_>) -> u8
     ensures { result ≡ slice_index (line (rest at.now)) 1 }
 {

@@ -1,7 +1,7 @@
 -- Bytes that are a token by themselves.
-use Rattle.std.proofs.Common.{◌≡◌, ℕ, ◌<◌, ◌≤◌, Bool, true, false, not, cond, ◌==◌, ◌&&◌, nat_lt, nat_le, List, [], ◌∷◌, refl, ap, sym, ◌∙◌, inl, inr, subst, take, drop, length, Some, None, Option, arith}
-use Rattle.std.proofs.lemmas.Bool.{and_parts, or_cases, eqb-true, ne_eqb, ltb-true, leb-true, le-leb, or_left, cases_eq, cond_both, agree_below_at, true≢false}
-use Rattle.std.specs.List.{list_all}
+use Rattle.std.proofs.Common.{◌≡◌, ℕ, ◌<◌, ◌≤◌, Bool, true, false, not, cond, ◌==◌, ◌&&◌, nat_lt, nat_le, nat_eq, ◌||◌, slice_index, List, [], ◌∷◌, refl, ap, sym, ◌∙◌, inl, inr, subst, take, drop, length, Some, None, Option, arith}
+use Rattle.std.proofs.lemmas.Bool.{and_parts, and_left, and_right, cases_Bool, or_cases, eqb-true, ne_eqb, ltb-true, leb-true, le-leb, or_left, cases_eq, cond_both, agree_below_at, true≢false}
+use Rattle.std.specs.List.{list_all, starts_with}
 use Rattle.std.specs.Char.{encode_utf8}
 use Rattle.std.proofs.lemmas.Str.{encode_ascii}
 use Rattle.scan_model.specs.Spliced.{Spot, byte_at}
@@ -16,9 +16,10 @@ use Rattle.lexeme_reader.proofs.NameLemmas.{no_name as no_name_stands}
 use Rattle.word_table.specs.Rows.{Entry, longest_row, longer, rows_among}
 use Rattle.word_table.specs.Tables as tables
 use Rattle.word_table.proofs.FirstLemmas.{cover, longest_from}
-use Rattle.pp_lexer.specs.Reads.{is_alone, is_quiet, mark_len, StandsQuiet}
+use Rattle.pp_lexer.specs.Reads.{is_alone, may_lengthen, lengthens, is_quiet, mark_len, StandsQuiet}
 use Rattle.pp_lexer.proofs.ChoiceLemmas.{Unquoted, mark_facts, first-take}
 use Rattle.pp_lexer.proofs.ClassLemmas.{begins_word, digit_small, number_first}
+use Rattle.pp_lexer.proofs.MarkLemmas.{mark_le}
 use Rattle.pp_lexer.proofs.PassingLemmas.{unquoted_left}
 use Rattle.pp_lexer.proofs.QuietLemmas.{OpensNone, quiet_here, stands_by}
 use Rattle.pp_lexer.proofs.RowLemmas.{len_of, longest-punctuator}
@@ -46,6 +47,11 @@ short_mark es ks c t all h =
     let short = short_row (c ∷ t) (rows_among es ks c) h in
     subst (λ o. len_of o ≤ 1) e short
 
+holds : (a b : Bool) → a ≡ true → (a && not b) ≡ false → b ≡ true
+holds true true h e = refl
+holds true false h e = absurd (true≢false e)
+holds false b h e = cc
+
 -- what the table says of each such byte
 alone_table : (c : ℕ) → c < 128 → (is_alone c && not (is_quiet c && are_short (rows_among tables.punctuators tables.firsts c))) ≡ false
 alone_table c h = agree_below_at (λ c. is_alone c && not (is_quiet c && are_short (rows_among tables.punctuators tables.firsts c))) (λ c. false) 128 c refl h
@@ -60,11 +66,6 @@ alone c h =
     let small = ltb-true c 128 (and_parts (nat_lt c 128) _ h).0 in
     let both = and_parts (is_quiet c) (are_short (rows_among tables.punctuators tables.firsts c)) (holds (is_alone c) (is_quiet c && are_short (rows_among tables.punctuators tables.firsts c)) h (alone_table c small)) in
     record { small = small; quiet = both.0; short = both.1 }
-  where
-    holds : (a b : Bool) → a ≡ true → (a && not b) ≡ false → b ≡ true
-    holds true true h e = refl
-    holds true false h e = absurd (true≢false e)
-    holds false b h e = cc
 
 mark_one : (s : List ℕ) → 0 < length s → are_short (rows_among tables.punctuators tables.firsts (first s)) ≡ true → mark_len s ≤ 1
 mark_one [] some h = absurd (omega arith)
@@ -72,6 +73,60 @@ mark_one (c ∷ t) some h =
     let short = short_mark tables.punctuators tables.firsts c (take 3 t) refl h in
     let same = longest-punctuator (c ∷ t) in
     cond_both (is_lone_less (c ∷ t)) 1 (longest (is_one_of punctuators) (c ∷ t)) (λ n. n ≤ 1) (λ e. omega arith) (λ e. subst (λ n. n ≤ 1) (sym same) short)
+
+-- ## No byte that makes it longer comes next
+
+-- the word has one byte, or its second is one that lengthens
+abbrev is_lengthened : Entry → Bool
+is_lengthened e = nat_le (length e.0) 1 || lengthens (slice_index e.0 1)
+
+abbrev are_lengthened : List Entry → Bool
+are_lengthened es = list_all is_lengthened es
+
+no_second : (c d : ℕ) (t word : List ℕ) → lengthens (slice_index word 1) ≡ true → lengthens d ≡ false → (length word ≤ 1 → ⊥) → starts_with nat_eq (c ∷ d ∷ t) word ≡ false
+no_second c d t [] second none long = absurd (long (omega arith))
+no_second c d t (a ∷ []) second none long = absurd (long (omega arith))
+no_second c d t (a ∷ b ∷ word) second none long =
+    and_right (a == c) _ (and_left (b == d) _ (ne_eqb b d (λ e. true≢false (sym second ∙ ap lengthens e ∙ none))))
+
+lengthened_row : (c d : ℕ) (t : List ℕ) (es : List Entry) → are_lengthened es ≡ true → lengthens d ≡ false → len_of (longest_row (c ∷ d ∷ t) es) ≤ 1
+lengthened_row c d t [] all none = omega arith
+lengthened_row c d t (e ∷ es) all none =
+    let both = and_parts (is_lengthened e) (are_lengthened es) all in
+    let later = lengthened_row c d t es both.1 none in
+    elim (cases_Bool (nat_le (length e.0) 1)) [
+      | inl short ↦ short_longer _ e.1 (length e.0) (longest_row (c ∷ d ∷ t) es) (leb-true (length e.0) 1 short) later
+      | inr long ↦
+          let second : lengthens (slice_index e.0 1) ≡ true = sym (ap (λ b. b || lengthens (slice_index e.0 1)) long) ∙ both.0 in
+          rw (no_second c d t e.0 second none (λ le. true≢false (sym (le-leb (length e.0) 1 le) ∙ long))) later
+    ]
+
+lengthened_mark : (es : List Entry) (ks : List ℕ) (c d : ℕ) (t : List ℕ) → cover ks es ≡ true → are_lengthened (rows_among es ks c) ≡ true → lengthens d ≡ false → len_of (longest_row (c ∷ d ∷ t) es) ≤ 1
+lengthened_mark es ks c d t all h none =
+    let e = longest_from es ks (c ∷ d ∷ t) all (λ z. omega (arith, z)) in
+    subst (λ o. len_of o ≤ 1) e (lengthened_row c d t (rows_among es ks c) h none)
+
+lengthen_table : (c : ℕ) → c < 128 → (may_lengthen c && not (is_quiet c && are_lengthened (rows_among tables.punctuators tables.firsts c))) ≡ false
+lengthen_table c h = agree_below_at (λ c. may_lengthen c && not (is_quiet c && are_lengthened (rows_among tables.punctuators tables.firsts c))) (λ c. false) 128 c refl h
+
+record Lengthens (c : ℕ) : Type 0 where
+  small : c < 128
+  quiet : is_quiet c ≡ true
+  rows : are_lengthened (rows_among tables.punctuators tables.firsts c) ≡ true
+
+lengthen : (c : ℕ) → may_lengthen c ≡ true → Lengthens c
+lengthen c h =
+    let small = ltb-true c 128 (and_parts (nat_lt c 128) _ h).0 in
+    let both = and_parts (is_quiet c) (are_lengthened (rows_among tables.punctuators tables.firsts c)) (holds (may_lengthen c) (is_quiet c && are_lengthened (rows_among tables.punctuators tables.firsts c)) h (lengthen_table c small)) in
+    record { small = small; quiet = both.0; rows = both.1 }
+
+mark_short : (s : List ℕ) → 0 < length s → are_lengthened (rows_among tables.punctuators tables.firsts (first s)) ≡ true → lengthens (slice_index s 1) ≡ false → mark_len s ≤ 1
+mark_short [] some h none = absurd (omega arith)
+mark_short (c ∷ []) some h none = mark_le (c ∷ [])
+mark_short (c ∷ d ∷ t) some h none =
+    let short = lengthened_mark tables.punctuators tables.firsts c d (take 2 t) refl h none in
+    let same = longest-punctuator (c ∷ d ∷ t) in
+    cond_both (is_lone_less (c ∷ d ∷ t)) 1 (longest (is_one_of punctuators) (c ∷ d ∷ t)) (λ n. n ≤ 1) (λ e. omega arith) (λ e. subst (λ n. n ≤ 1) (sym same) short)
 
 -- ## What is left after one byte
 
@@ -98,6 +153,15 @@ alone_left text s c here some h =
     let len : 1 ≡ length (encode_utf8 c) = sym (ap length (encode_ascii c a.small)) in
     one_left text s (quiet_here s c here a.quiet)
     (mark_one (line s) some (ap (λ k. are_short (rows_among tables.punctuators tables.firsts k)) (first_is s c here some) ∙ a.short))
+    (sym (len_some s c 1 some len begins).0)
+
+pub short_left : (text : List ℕ) (s : List Spot) (c : ℕ) → byte_at s ≡ Some c → 0 < length (line s) → may_lengthen c ≡ true → lengthens (slice_index (line s) 1) ≡ false → (lexeme text [] s).left ≡ drop 1 s
+short_left text s c here some h none =
+    let a = lengthen c h in
+    let begins = ascii_begins s c here a.small in
+    let len : 1 ≡ length (encode_utf8 c) = sym (ap length (encode_ascii c a.small)) in
+    one_left text s (quiet_here s c here a.quiet)
+    (mark_short (line s) some (ap (λ k. are_lengthened (rows_among tables.punctuators tables.firsts k)) (first_is s c here some) ∙ a.rows) none)
     (sym (len_some s c 1 some len begins).0)
 
 -- ## Where no character begins

@@ -83,3 +83,11 @@ pub record StandsQuiet (s : List ℕ) : Type 0 where
 abbrev pub is_alone : ℕ → Bool
 is_alone c = nat_lt c 128
     && ((c == 123 || c == 125 || c == 91 || c == 93 || c == 40 || c == 41) || (c == 59 || c == 44 || c == 63 || c == 126) || (nat_lt c 32 || c == 64 || c == 96 || c == 92 || c == 127))
+
+-- a punctuator that only a byte of `lengthens` makes a longer one: `!`, `%`, `*`, `^`
+abbrev pub may_lengthen : ℕ → Bool
+may_lengthen c = nat_lt c 128 && (c == 33 || c == 37 || c == 42 || c == 94)
+
+-- `=`, `>` or `:`
+abbrev pub lengthens : ℕ → Bool
+lengthens c = c == 61 || c == 62 || c == 58

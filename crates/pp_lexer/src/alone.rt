@@ -1,10 +1,11 @@
-ghost use Rattle.std.specs.Prelude.{◌≡◌, ◌<◌, [], IsTrue, length, drop};
+ghost use Rattle.std.specs.Prelude.{◌≡◌, ◌<◌, Some, [], IsTrue, length, drop};
 ghost use Rattle.line_splice.specs.Cursor.{text_of, rest};
 ghost use Rattle.lexeme_reader.specs.Fronts.{line};
+ghost use Rattle.scan_model.specs.Spliced.{byte_at};
 ghost use Rattle.scan_model.specs.Tokens.{lexeme};
-ghost use Rattle.pp_lexer.specs.Reads.{is_alone};
+ghost use Rattle.pp_lexer.specs.Reads.{is_alone, may_lengthen, lengthens};
 
-use lexeme_reader::begins_character;
+use lexeme_reader::{begins_character, second_byte};
 use line_splice::Cursor;
 
 // Whether the byte is a token by itself, whatever follows: a punctuator with which no longer one begins, or a byte of no
@@ -23,17 +24,45 @@ fn is_alone(byte: u8) -> bool
     (byte < 128) & (is_bracket | is_mark | is_stray)
 }
 
-// Whether a token of one byte stands here, told by that byte, or by its beginning no character.
+// Whether the byte is a punctuator that only `=`, `>` or `:` makes a longer one.
+fn may_lengthen(byte: u8) -> bool
+    ensures { result ≡ may_lengthen byte }
+{
+    (byte < 128) & ((byte == b'!') | (byte == b'%') | (byte == b'*') | (byte == b'^'))
+}
+
+fn lengthens(byte: u8) -> bool
+    ensures { result ≡ lengthens byte }
+{
+    (byte == b'=') | (byte == b'>') | (byte == b':')
+}
+
+// Whether such a punctuator stands here, and no longer one.
+fn at_short(at: &Cursor<'_>, byte: u8) -> bool
+    requires some { 0 < length (line (rest at.now)) }
+    requires here { byte_at (rest at.now) ≡ Some byte }
+    ensures { IsTrue result → (lexeme (text_of at.now) [] (rest at.now)).left ≡ drop 1 (rest at.now) }
+{
+    if may_lengthen(byte) {
+        !lengthens(second_byte(at))
+    } else {
+        false
+    }
+}
+
+// Whether a token of one byte stands here, told by that byte and the next, or by its beginning no character.
 pub fn at_alone(at: &Cursor<'_>) -> bool
     requires { 0 < length (line (rest at.now)) }
     ensures { IsTrue result → (lexeme (text_of at.now) [] (rest at.now)).left ≡ drop 1 (rest at.now) }
 {
     match at.peek() {
         Some(byte) => {
-            if byte < 128 {
-                is_alone(byte)
-            } else {
+            if byte >= 128 {
                 !begins_character(at)
+            } else if is_alone(byte) {
+                true
+            } else {
+                at_short(at, byte)
             }
         }
         None => false,
