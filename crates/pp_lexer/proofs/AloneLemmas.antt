@@ -30,16 +30,16 @@ use Rattle.pp_lexer.proofs.UnquotedLemmas.{mark_chosen, stray_chosen}
 abbrev are_short : List Entry → Bool
 are_short es = list_all (λ e. nat_le (length e.0) 1) es
 
-short_longer : (b : Bool) (v n : ℕ) (o : Option (ℕ × ℕ)) → n ≤ 1 → len_of o ≤ 1 → len_of (cond b (longer (Some (v, n)) o) o) ≤ 1
-short_longer false v n o le h = h
-short_longer true v n None le h = le
-short_longer true v n (Some m) le h = cond_both (nat_le m.1 n) (Some (v, n)) (Some m) (λ o. len_of o ≤ 1) (λ e. le) (λ e. h)
+pub longer_le : (k : ℕ) (b : Bool) (v n : ℕ) (o : Option (ℕ × ℕ)) → n ≤ k → len_of o ≤ k → len_of (cond b (longer (Some (v, n)) o) o) ≤ k
+longer_le k false v n o le h = h
+longer_le k true v n None le h = le
+longer_le k true v n (Some m) le h = cond_both (nat_le m.1 n) (Some (v, n)) (Some m) (λ o. len_of o ≤ k) (λ e. le) (λ e. h)
 
 short_row : (text : List ℕ) (es : List Entry) → are_short es ≡ true → len_of (longest_row text es) ≤ 1
 short_row text [] h = omega arith
 short_row text (e ∷ es) h =
     let both = and_parts (nat_le (length e.0) 1) (are_short es) h in
-    short_longer _ e.1 (length e.0) (longest_row text es) (leb-true (length e.0) 1 both.0) (short_row text es both.1)
+    longer_le 1 _ e.1 (length e.0) (longest_row text es) (leb-true (length e.0) 1 both.0) (short_row text es both.1)
 
 short_mark : (es : List Entry) (ks : List ℕ) (c : ℕ) (t : List ℕ) → cover ks es ≡ true → are_short (rows_among es ks c) ≡ true → len_of (longest_row (c ∷ t) es) ≤ 1
 short_mark es ks c t all h =
@@ -47,7 +47,7 @@ short_mark es ks c t all h =
     let short = short_row (c ∷ t) (rows_among es ks c) h in
     subst (λ o. len_of o ≤ 1) e short
 
-holds : (a b : Bool) → a ≡ true → (a && not b) ≡ false → b ≡ true
+pub holds : (a b : Bool) → a ≡ true → (a && not b) ≡ false → b ≡ true
 holds true true h e = refl
 holds true false h e = absurd (true≢false e)
 holds false b h e = cc
@@ -95,7 +95,7 @@ lengthened_row c d t (e ∷ es) all none =
     let both = and_parts (is_lengthened e) (are_lengthened es) all in
     let later = lengthened_row c d t es both.1 none in
     elim (cases_Bool (nat_le (length e.0) 1)) [
-      | inl short ↦ short_longer _ e.1 (length e.0) (longest_row (c ∷ d ∷ t) es) (leb-true (length e.0) 1 short) later
+      | inl short ↦ longer_le 1 _ e.1 (length e.0) (longest_row (c ∷ d ∷ t) es) (leb-true (length e.0) 1 short) later
       | inr long ↦
           let second : lengthens (slice_index e.0 1) ≡ true = sym (ap (λ b. b || lengthens (slice_index e.0 1)) long) ∙ both.0 in
           rw (no_second c d t e.0 second none (λ le. true≢false (sym (le-leb (length e.0) 1 le) ∙ long))) later

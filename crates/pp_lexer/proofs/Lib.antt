@@ -19,3 +19,4 @@ pub mod PassingLemmas
 pub mod QuietLemmas
 pub mod BracketLemmas
 pub mod AloneLemmas
+pub mod DoubleLemmas

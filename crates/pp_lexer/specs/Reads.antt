@@ -1,6 +1,6 @@
 -- How what the lexer's functions return stands to the definitions.
 use lib.Pointwise.{pointwise}
-use Rattle.std.specs.Prelude.{◌≡◌, nat_eq, if◌then◌else◌, nat_lt, ◌-◌, take, drop, length, ℕ, Bool, true, false, not, ◌&&◌, ◌||◌, ◌==◌, List, [], ◌∷◌, Option, Some, None}
+use Rattle.std.specs.Prelude.{◌≡◌, nat_eq, if◌then◌else◌, nat_lt, nat_le, slice_index, ◌-◌, take, drop, length, ℕ, Bool, true, false, not, ◌&&◌, ◌||◌, ◌==◌, List, [], ◌∷◌, Option, Some, None}
 use Rattle.scan_model.specs.declared.token.Kind.{Kind}
 use Rattle.scan_model.specs.declared.token.Kind.TheVariants.{Punct, Stray}
 use Rattle.scan_model.specs.declared.token.Tok.{Tok}
@@ -91,3 +91,11 @@ may_lengthen c = nat_lt c 128 && (c == 33 || c == 37 || c == 42 || c == 94)
 -- `=`, `>` or `:`
 abbrev pub lengthens : ℕ → Bool
 lengthens c = c == 61 || c == 62 || c == 58
+
+-- two of this byte are a punctuator
+abbrev pub doubles : ℕ → Bool
+doubles c = nat_lt c 128 && ((c == 43 || c == 45 || c == 61 || c == 58) || (c == 38 || c == 124 || c == 35) || (c == 60 || c == 62))
+
+-- two of such a byte come first, and no `=` next, which makes some of them longer
+abbrev pub begins_double : List ℕ → Bool
+begins_double s = nat_le 3 (length s) && (doubles (slice_index s 0) && slice_index s 1 == slice_index s 0 && not (slice_index s 2 == 61))

@@ -4,6 +4,7 @@
 
 mod alone;
 mod blanks;
+mod doubles;
 mod header_names;
 mod lexeme;
 mod logical_lines;

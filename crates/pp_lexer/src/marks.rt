@@ -67,7 +67,7 @@ fn shows_itself(byte: u8) -> bool
 }
 
 // The next four bytes as they are written, where they show so.
-fn written_four<'a>(at: &Cursor<'a>) -> Option<&'a [u8]>
+pub fn written_four<'a>(at: &Cursor<'a>) -> Option<&'a [u8]>
     ensures { IfSome result (λ four. four.now ≡ take 4 (line (rest at.now))) }
 {
     let written = at.ahead();

@@ -1,12 +1,8 @@
 use Rattle.std.proofs.Common.{◌≡◌, [], length, ap, sym, arith}
 use Rattle.line_splice.specs.Cursor.{rest}
 use Rattle.pp_lexer.proofs.MarkLemmas.{line_le}
-use Rattle.pp_lexer.proofs.PassingLemmas.{quiet_left, wants_header-nil}
+use Rattle.pp_lexer.proofs.PassingLemmas.{wants_header-nil}
 use Rattle.pp_lexer.proofs.passing.pass_any.Goals as goal
-
-pub returns-then-at_quiet-clause-left : goal.returns-then-at_quiet-clause-left
-returns-then-at_quiet-clause-left c =
-    quiet_left c.args.at.now.text.now (rest c.args.at.now) (rest c.pass_mark.new.at) c.pass_mark.result (c.at_quiet.ensures c.if-at_quiet.true) c.pass_mark.ensures.lexeme
 
 pub advance-requires : goal.advance-requires
 advance-requires c e = let none : length (rest c.args.at.now) ≡ 0 = ap length e in omega (arith, none, c.requires, line_le (rest c.args.at.now))
