@@ -10,8 +10,8 @@ ghost use Rattle.expansion.specs.States.{IsMachine, Turns, continued, scope_of, 
 use crate::built_ins::instead;
 use crate::machine::{Machine, Turn};
 use crate::scope::Scope;
-use crate::token_tests::{is_close_paren, is_identifier, is_open_paren};
 use list_stack::ListStack;
+use macro_tokens::{is_close_paren, is_identifier, is_open_paren};
 use scan_model::{Bytes, Kind, NoMemory};
 use substitution::Marked;
 

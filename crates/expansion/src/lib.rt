@@ -4,13 +4,11 @@
 mod args;
 mod built_ins;
 mod calls;
-mod copies;
 mod defined;
 mod machine;
 mod objects;
 mod run;
 mod scope;
-mod token_tests;
 mod turns;
 
 pub use run::expand;

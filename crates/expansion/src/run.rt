@@ -3,12 +3,12 @@ ghost use Rattle.macro_table.specs.Table.{macros_of};
 ghost use Rattle.scan_model.specs.Expansion as expansion;
 ghost use Rattle.expansion.specs.Lists.{unhidden};
 
-use crate::copies::copy_tok;
 use crate::machine::{Machine, Turn};
 use crate::scope::Scope;
 use hide_sets::{HideSet, HideSets};
 use list_stack::ListStack;
 use macro_table::Macros;
+use macro_tokens::copy_tok;
 use scan_model::{Expanded, Mode, NoMemory, Site, Tok};
 use std::alloc::Global;
 use substitution::Marked;

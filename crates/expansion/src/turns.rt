@@ -8,8 +8,8 @@ ghost use Rattle.expansion.specs.States.{IsMachine, Turns, continued, ran_of, sc
 
 use crate::machine::{Machine, Turn};
 use crate::scope::Scope;
-use crate::token_tests::is_identifier;
 use macro_table::Def;
+use macro_tokens::is_identifier;
 use scan_model::{Mode, NoMemory, Tok};
 use substitution::Marked;
 

@@ -3,7 +3,7 @@ ghost use Rattle.scan_model.specs.TokenTests.{is_comma};
 ghost use Rattle.list_stack.specs.Places.{AreLinked, Closes, HasComma, CutsAt, floor};
 
 use crate::entry::{Entry, places_below};
-use crate::token_tests::{is_comma, is_open_paren};
+use macro_tokens::{is_comma, is_open_paren};
 use scan_model::NoMemory;
 use std::alloc::Global;
 

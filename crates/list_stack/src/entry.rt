@@ -1,7 +1,7 @@
 ghost use Rattle.std.specs.Prelude.{◌≡◌, OnOk, ◌≤◌, length, [], ◌∷◌};
 ghost use Rattle.list_stack.specs.Places.{places_of, part, AreLinked, Adds};
 
-use crate::token_tests::{is_close_paren, is_comma, is_open_paren};
+use macro_tokens::{is_close_paren, is_comma, is_open_paren};
 use scan_model::{NoMemory, Tok};
 use substitution::Marked;
 

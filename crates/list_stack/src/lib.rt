@@ -4,12 +4,10 @@
 //! a call's parentheses and arguments are cut with no move of a token, however deep calls stand in one another.
 #![tactic(auto)]
 
-mod copies;
 mod cuts;
 mod entry;
 mod filling;
 mod stack;
-mod token_tests;
 
 pub use stack::ListStack;
 

@@ -4,16 +4,15 @@ ghost use Rattle.hide_sets.specs.Sets.{IsSet, hides_of, Extends};
 ghost use Rattle.substitution.specs.Meaning.{AreMarked};
 ghost use Rattle.list_stack.specs.Stacks.{is_called, PutsBefore, Opens, Cuts};
 
-use crate::copies::copy_marked;
 use crate::cuts::{close_of_first, commas, floor, with_places};
 use crate::entry::Entry;
 use crate::filling::{entries_of, put_on_top};
-use crate::token_tests::is_open_paren;
 use hide_sets::{HideSet, HideSets};
+use macro_tokens::is_open_paren;
 use scan_model::{Items, NoMemory};
 use std::alloc::Global;
 use std::marker::Model;
-use substitution::Marked;
+use substitution::{Marked, copy_marked};
 
 /// Lists of tokens that are to be replaced, one inside the other: the first is at work, and each of the others is to be
 /// at work after the one before has ended. After an `Err` nothing is said of the stack.

@@ -4,9 +4,7 @@ ghost use Rattle.scan_model.specs.TokenTests.{is_hash, is_paste, is_comma, begin
 ghost use Rattle.scan_model.specs.MacroDefinition.{is_opt};
 ghost use Rattle.scan_model.specs.Substitution.{is_variable_part, stands_alone, is_replaced};
 
-use crate::token_tests::{
-    begins_with_comma, begins_with_hash, begins_with_paste, is_named, is_opt,
-};
+use macro_tokens::{begins_with_comma, begins_with_hash, begins_with_paste, is_named, is_opt};
 use scan_model::{FunctionDef, Tok};
 
 /// Whether a replacement needs the argument of the parameter of this name replaced by itself ([cpp.subst]): the parameter
@@ -58,5 +56,5 @@ fn is_alone(variable: bool, before: &[Tok], last: &[Tok], after: &[Tok]) -> bool
 fn has_opt(body: &[Tok]) -> bool
     ensures { result ≡ list_any is_opt body.now }
 {
-    body.iter().any(is_opt)
+    body.iter().any(|tok| is_opt(tok))
 }

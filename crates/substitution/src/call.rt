@@ -8,7 +8,7 @@ ghost use Rattle.substitution.specs.Meaning.{arg_of, IsArg};
 ghost use Rattle.substitution.specs.Calls.{call_of, AreArgs};
 
 use crate::Arg;
-use crate::token_tests::{is_comma, is_identifier, is_named, is_opt, is_paste};
+use macro_tokens::{is_comma, is_identifier, is_named, is_opt, is_paste};
 use scan_model::{FunctionDef, Tok};
 
 /// What a replacement needs beside the list.

@@ -8,22 +8,12 @@ use crate::call::Call;
 use crate::item::Item;
 use crate::{Arg, Marked};
 use hide_sets::HideSet;
-use scan_model::{Bytes, NoMemory, Tok};
+use macro_tokens::copy_tok;
+use scan_model::{NoMemory, Tok};
 use std::alloc::Global;
 
-/// The same token in memory of its own.
-fn copy_tok(alloc: Global, tok: &Tok) -> Result<Tok, NoMemory>
-    ensures { IfOk result (λ copy. copy ≡ tok.now) }
-{
-    Ok(Tok {
-        kind: tok.kind,
-        text: Bytes::copy(alloc, tok.text.as_slice())?,
-        space: tok.space,
-        line: tok.line,
-    })
-}
-
-fn copy_marked(alloc: Global, marked: &Marked) -> Result<Marked, NoMemory>
+/// The same token, with its hide set, in memory of its own. `Err` is want of memory.
+pub fn copy_marked(alloc: Global, marked: &Marked) -> Result<Marked, NoMemory>
     ensures { IfOk result (λ copy. copy ≡ marked.now) }
 {
     Ok(Marked {

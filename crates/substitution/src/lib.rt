@@ -13,10 +13,10 @@ mod parens;
 mod parts;
 mod strings;
 mod substitute;
-mod token_tests;
 mod written;
 
 pub use alone::is_replaced;
+pub use copies::copy_marked;
 pub use marked::{Arg, Marked};
 pub use substitute::{substitute_function, substitute_object};
 pub use written::is_taken_as_written;

@@ -2,7 +2,7 @@ ghost use Rattle.std.specs.Prelude.{◌≡◌, ◌<◌, ◌≤◌, ◌+◌, ◌^
 ghost use Rattle.substitution.specs.Parens.{IsEnclosed};
 ghost use Rattle.scan_model.specs.Parentheses as spec;
 
-use crate::token_tests::{is_close_paren, is_open_paren};
+use macro_tokens::{is_close_paren, is_open_paren};
 use scan_model::Tok;
 
 /// What parentheses enclose, and what follows them.

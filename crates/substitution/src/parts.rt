@@ -11,9 +11,9 @@ use crate::call::{Call, PartEnd};
 use crate::copies::{add_given, add_own, own};
 use crate::item::Item;
 use crate::strings::string_of;
-use crate::token_tests::{begins_with_paste, is_comma, is_hash, is_opt, is_paste};
 use crate::{Arg, Marked};
 use hide_sets::HideSet;
+use macro_tokens::{begins_with_paste, is_comma, is_hash, is_opt, is_paste};
 use scan_model::{NoMemory, Tok};
 use std::alloc::Global;
 

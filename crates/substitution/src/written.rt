@@ -1,7 +1,7 @@
 ghost use Rattle.std.specs.Prelude.{◌≡◌, []};
 ghost use Rattle.substitution.specs.Written.{is_operand, stands_as_operand, is_taken_as_written};
 
-use crate::token_tests::{begins_with_hash, begins_with_paste, is_named};
+use macro_tokens::{begins_with_hash, begins_with_paste, is_named};
 use scan_model::{FunctionDef, Tok};
 
 /// Whether a replacement may take the argument of the parameter of this name as it is written ([cpp.stringize],
