@@ -77,6 +77,11 @@ lone_window (a ∷ b ∷ []) = refl
 lone_window (a ∷ b ∷ c ∷ []) = refl
 lone_window (a ∷ b ∷ c ∷ d ∷ s) = refl
 
+pub second_window : (s : List ℕ) → slice_index (take 4 s) 1 ≡ slice_index s 1
+second_window [] = refl
+second_window (a ∷ []) = refl
+second_window (a ∷ b ∷ s) = refl
+
 lone_some : (s : List ℕ) → is_lone_less s ≡ true → 1 ≤ length s
 unfolding is_lone_less
 lone_some [] h = absurd (true≢false (sym h))

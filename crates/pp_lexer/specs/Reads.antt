@@ -96,6 +96,6 @@ lengthens c = c == 61 || c == 62 || c == 58
 abbrev pub doubles : ℕ → Bool
 doubles c = nat_lt c 128 && ((c == 43 || c == 45 || c == 61 || c == 58) || (c == 38 || c == 124 || c == 35) || (c == 60 || c == 62))
 
--- two of such a byte come first, and no `=` next, which makes some of them longer
+-- two of such a byte come first, and no `=` next, which makes some others longer
 abbrev pub begins_double : List ℕ → Bool
-begins_double s = nat_le 3 (length s) && (doubles (slice_index s 0) && slice_index s 1 == slice_index s 0 && not (slice_index s 2 == 61))
+begins_double s = nat_le 3 (length s) && (doubles (slice_index s 0) && slice_index s 1 == slice_index s 0 && not (slice_index s 2 == 61 && not (slice_index s 0 == 61)))

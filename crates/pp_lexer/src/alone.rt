@@ -1,10 +1,11 @@
-ghost use Rattle.std.specs.Prelude.{◌≡◌, ◌<◌, Some, [], IsTrue, length, drop};
+ghost use Rattle.std.specs.Prelude.{◌≡◌, ◌<◌, Some, [], IsTrue, length, drop, slice_index};
 ghost use Rattle.line_splice.specs.Cursor.{text_of, rest};
 ghost use Rattle.lexeme_reader.specs.Fronts.{line};
 ghost use Rattle.scan_model.specs.Spliced.{byte_at};
 ghost use Rattle.scan_model.specs.Tokens.{lexeme};
 ghost use Rattle.pp_lexer.specs.Reads.{is_alone, may_lengthen, lengthens};
 
+use crate::marks::written_four;
 use lexeme_reader::{begins_character, second_byte};
 use line_splice::Cursor;
 
@@ -37,6 +38,22 @@ fn lengthens(byte: u8) -> bool
     (byte == b'=') | (byte == b'>') | (byte == b':')
 }
 
+fn second_or_zero(shown: &[u8]) -> u8
+    ensures { result ≡ slice_index shown.now 1 }
+{
+    if shown.len() > 1 { shown[1] } else { 0 }
+}
+
+// The byte after the next one of the line, or 0 where there is none: it is mostly there as it is written.
+fn second_shown(at: &Cursor<'_>) -> u8
+    ensures { result ≡ slice_index (line (rest at.now)) 1 }
+{
+    match written_four(at) {
+        Some(shown) => second_or_zero(shown),
+        None => second_byte(at),
+    }
+}
+
 // Whether such a punctuator stands here, and no longer one.
 fn at_short(at: &Cursor<'_>, byte: u8) -> bool
     requires some { 0 < length (line (rest at.now)) }
@@ -44,7 +61,7 @@ fn at_short(at: &Cursor<'_>, byte: u8) -> bool
     ensures { IsTrue result → (lexeme (text_of at.now) [] (rest at.now)).left ≡ drop 1 (rest at.now) }
 {
     if may_lengthen(byte) {
-        !lengthens(second_byte(at))
+        !lengthens(second_shown(at))
     } else {
         false
     }

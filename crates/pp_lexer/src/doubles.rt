@@ -16,14 +16,14 @@ fn doubles(byte: u8) -> bool
     (byte < 128) & (is_sign | is_joint | is_bracket)
 }
 
-// Whether two of such a byte come first, and no `=` next, which makes some of them longer.
+// Whether two of such a byte come first, and no `=` next, which makes some others longer.
 fn begins_double(shown: &[u8]) -> bool
     ensures { result ≡ begins_double shown.now }
 {
     if shown.len() < 3 {
         return false;
     }
-    doubles(shown[0]) & (shown[1] == shown[0]) & !(shown[2] == b'=')
+    doubles(shown[0]) & (shown[1] == shown[0]) & !((shown[2] == b'=') & !(shown[0] == b'='))
 }
 
 // Whether a punctuator of one byte, twice, and no longer one stands here as it is written.

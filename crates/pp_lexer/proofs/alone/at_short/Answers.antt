@@ -8,4 +8,4 @@ use Rattle.pp_lexer.proofs.alone.at_short.Goals as goal
 pub returns-then-may_lengthen : goal.returns-then-may_lengthen
 returns-then-may_lengthen c h =
     short_left (text_of c.args.at.now) (rest c.args.at.now) c.args.byte c.requires.here c.requires.some (sym c.may_lengthen.ensures ∙ c.if-may_lengthen.true)
-    (ap lengthens (sym c.second_byte.ensures) ∙ sym c.lengthens.ensures ∙ not-true c.lengthens.result h)
+    (ap lengthens (sym c.second_shown.ensures) ∙ sym c.lengthens.ensures ∙ not-true c.lengthens.result h)
