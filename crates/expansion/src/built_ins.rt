@@ -50,6 +50,7 @@ impl<'a> Machine<'a> {
             BuiltIn::Counter => self.counts(scope, name),
             BuiltIn::HasInclude => self.goes_out(name),
             BuiltIn::HasAttribute => self.goes_out(name),
+            BuiltIn::HasIncludeNext => self.goes_out(name),
         }
     }
 

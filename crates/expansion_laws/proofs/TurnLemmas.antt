@@ -86,6 +86,7 @@ module _ (e : Scope) (again : Again) (pays : Pays again) where
       (paid_within cost (cost + 2) (out (instead Number (decimal counter) m) (again rest (cost + 2) (counter + 1))) (omega arith)
       (λ le. out_within (instead Number (decimal counter) m) (cost + 2) (again rest (cost + 2) (counter + 1)) (pays rest (cost + 2) (counter + 1) le))) tt
   built_in_within BuiltInIs.HasInclude m rest cost counter le = goes_within m rest cost counter le
+  built_in_within BuiltInIs.HasIncludeNext m rest cost counter le = goes_within m rest cost counter le
   built_in_within BuiltInIs.HasAttribute m rest cost counter le = goes_within m rest cost counter le
 
   -- ## What arguments pay
@@ -296,6 +297,7 @@ module _ (e : Scope) (again more : Again) (n : ℕ) (pays : Pays again) (same : 
       (paid_same (cost + 2) (out (instead Number (decimal counter) m) (again rest (cost + 2) (counter + 1))) (out (instead Number (decimal counter) m) (more rest (cost + 2) (counter + 1)))
       (λ le. goes_same (instead Number (decimal counter) m) rest (cost + 2) (counter + 1) le (omega arith))) refl
   built_in_same BuiltInIs.HasInclude m rest cost counter le enough = goes_same m rest cost counter le enough
+  built_in_same BuiltInIs.HasIncludeNext m rest cost counter le enough = goes_same m rest cost counter le enough
   built_in_same BuiltInIs.HasAttribute m rest cost counter le enough = goes_same m rest cost counter le enough
 
   arg_added_alike : (a : Arg) (r : Replaced) → with_arg again e a r ≡ with_arg more e a r

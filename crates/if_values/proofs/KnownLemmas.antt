@@ -14,7 +14,7 @@ use Rattle.if_values.specs.UnaryRows.{is_unary_operator}
 use Rattle.if_values.specs.Names.{shape}
 use Rattle.if_values.specs.Items.{first_of}
 use Rattle.scan_model.specs.TokenTests.{begins_with, is_of, is_sign, is_open_paren, is_close_paren, is_plain_string, unquoted}
-use Rattle.scan_model.specs.HeaderName.{Named, Term, Plain, Has, nonempty, written_before, angled_rest, angled, name_of, header, header_or_name, before_close, has_name, is_has, has_term, terms_up_to, terms}
+use Rattle.scan_model.specs.HeaderName.{Named, Term, Plain, Has, nonempty, written_before, angled_rest, angled, name_of, header, header_or_name, before_close, has_name, is_has, is_has_next, has_term, terms_up_to, terms}
 use Rattle.scan_model.specs.Condition.{with_has, has_literal}
 use Rattle.if_values.specs.Known.{has_count, HasEntries, known}
 
@@ -82,9 +82,9 @@ has_name_within (t ∷ ts) = let k = length (t ∷ ts) in
 
 -- ---- any fuel that suffices gives the same terms
 
-has_term_same : (n m : ℕ) (o : Option Named) → IfSome o (λ f. terms_up_to n (drop 1 f.after) ≡ terms_up_to m (drop 1 f.after)) → has_term o (terms_up_to n) ≡ has_term o (terms_up_to m)
-has_term_same n m None h = refl
-has_term_same n m (Some f) h = ap (option_map (Has f.form f.name ∷◌)) h
+has_term_same : (next : Bool) (n m : ℕ) (o : Option Named) → IfSome o (λ f. terms_up_to n (drop 1 f.after) ≡ terms_up_to m (drop 1 f.after)) → has_term next o (terms_up_to n) ≡ has_term next o (terms_up_to m)
+has_term_same next n m None h = refl
+has_term_same next n m (Some f) h = ap (option_map (Has next f.form f.name ∷◌)) h
 
 cond_same : {X : Type 0} (t : Bool) (a b x y : X) → a ≡ b → x ≡ y → cond t a x ≡ cond t b y
 cond_same true a b x y p q = p
@@ -99,7 +99,7 @@ same_fuel zero (suc m) (t ∷ ts) h k = absurd (omega arith)
 same_fuel (suc n) zero (t ∷ ts) h k = absurd (omega arith)
 same_fuel (suc n) (suc m) (t ∷ ts) h k =
     let plain = same_fuel n m ts (omega arith) (omega arith) in
-    let has = has_term_same n m (has_name ts) (IfSome_then (has_name ts) (has_name_within ts) (λ f w. same_fuel n m (drop 1 f.after) (omega (arith, length-drop 1 f.after)) (omega (arith, length-drop 1 f.after)))) in
+    let has = has_term_same (is_has_next t) n m (has_name ts) (IfSome_then (has_name ts) (has_name_within ts) (λ f w. same_fuel n m (drop 1 f.after) (omega (arith, length-drop 1 f.after)) (omega (arith, length-drop 1 f.after)))) in
     cond_same (is_has t) _ _ _ _ has (ap (option_map (Plain t ∷◌)) plain)
 
 -- ---- one term after another
@@ -108,11 +108,11 @@ pub terms-plain : (t : Tok) (ts : List Tok) → is_has t ≡ false → terms (t 
 unfolding terms
 terms-plain t ts e = rw e refl
 
-pub terms-has : (t : Tok) (ts : List Tok) (n : Named) → is_has t ≡ true → has_name ts ≡ Some n → terms (t ∷ ts) ≡ option_map (Has n.form n.name ∷◌) (terms (drop 1 n.after))
+pub terms-has : (t : Tok) (ts : List Tok) (n : Named) → is_has t ≡ true → has_name ts ≡ Some n → terms (t ∷ ts) ≡ option_map (Has (is_has_next t) n.form n.name ∷◌) (terms (drop 1 n.after))
 unfolding terms
 terms-has t ts n e f =
     let within : length n.after ≤ length ts = let w = has_name_within ts in rw f at w in
-    rw (e, f) (ap (option_map (Has n.form n.name ∷◌)) (same_fuel (length ts) (length (drop 1 n.after)) (drop 1 n.after) (omega (arith, length-drop 1 n.after)) (omega arith)))
+    rw (e, f) (ap (option_map (Has (is_has_next t) n.form n.name ∷◌)) (same_fuel (length ts) (length (drop 1 n.after)) (drop 1 n.after) (omega (arith, length-drop 1 n.after)) (omega arith)))
 
 pub terms-bad : (t : Tok) (ts : List Tok) → is_has t ≡ true → has_name ts ≡ None → terms (t ∷ ts) ≡ None
 unfolding terms
@@ -146,23 +146,23 @@ pub record PassesHas (toks after : List Tok) (has : List Bool) : Type 0 where
   pub known_is : known toks has ≡ has_literal (get_or has 0 false) ∷ known (drop 1 after) (drop 1 has)
   pub entries : HasEntries (drop 1 after) (drop 1 has)
 
-pub record PassesBy (o : Option (List Term)) (n : Named) (has : List Bool) : Type 0 where
+pub record PassesBy (next : Bool) (o : Option (List Term)) (n : Named) (has : List Bool) : Type 0 where
   pub entry : 0 < length has
-  pub known_is : option_map_or (λ ts. with_has ts has) (option_map (Has n.form n.name ∷◌) o) [] ≡ has_literal (get_or has 0 false) ∷ option_map_or (λ ts. with_has ts (drop 1 has)) o []
+  pub known_is : option_map_or (λ ts. with_has ts has) (option_map (Has next n.form n.name ∷◌) o) [] ≡ has_literal (get_or has 0 false) ∷ option_map_or (λ ts. with_has ts (drop 1 has)) o []
   pub entries : option_map has_count o ≡ Some (length (drop 1 has))
 
 same_count : (m n : ℕ) → Some (1 + m) ≡ Some (suc n) → Some m ≡ Some n
 same_count m n e = let k : 1 + m ≡ suc n = cc in ap (λ j. Some j) (omega arith)
 
-has_by : (n : Named) (has : List Bool) (o : Option (List Term)) → option_map has_count (option_map (Has n.form n.name ∷◌) o) ≡ Some (length has) → PassesBy o n has
-has_by n has None h = cc
-has_by n [] (Some ts) h = let k : 1 + has_count ts ≡ 0 = cc in absurd (omega arith)
-has_by n (b ∷ bs) (Some ts) h = record { entry = omega arith; known_is = refl; entries = same_count (has_count ts) (length bs) h }
+has_by : (next : Bool) (n : Named) (has : List Bool) (o : Option (List Term)) → option_map has_count (option_map (Has next n.form n.name ∷◌) o) ≡ Some (length has) → PassesBy next o n has
+has_by next n has None h = cc
+has_by next n [] (Some ts) h = let k : 1 + has_count ts ≡ 0 = cc in absurd (omega arith)
+has_by next n (b ∷ bs) (Some ts) h = record { entry = omega arith; known_is = refl; entries = same_count (has_count ts) (length bs) h }
 
 passes_by : (t : Tok) (ts : List Tok) (n : Named) (after : List Tok) (has : List Bool) → is_has t ≡ true → has_name ts ≡ Some n → n.after ≡ after → HasEntries (t ∷ ts) has → PassesHas (t ∷ ts) after has
 passes_by t ts n after has e f g h =
-    let k : option_map has_count (option_map (Has n.form n.name ∷◌) (terms (drop 1 n.after))) ≡ Some (length has) = rw (terms-has t ts n e f) at h in
-    let all = has_by n has (terms (drop 1 n.after)) k in
+    let k : option_map has_count (option_map (Has (is_has_next t) n.form n.name ∷◌) (terms (drop 1 n.after))) ≡ Some (length has) = rw (terms-has t ts n e f) at h in
+    let all = has_by (is_has_next t) n has (terms (drop 1 n.after)) k in
     record {
       entry = all.entry;
       known_is = rw (terms-has t ts n e f, ← g) all.known_is;
@@ -255,9 +255,9 @@ count_plain_by : (t : Tok) (o : Option (List Term)) → option_map has_count (op
 count_plain_by t None = refl
 count_plain_by t (Some ts) = refl
 
-count_has_by : (n : Named) (o : Option (List Term)) → option_map has_count (option_map (Has n.form n.name ∷◌) o) ≡ option_map (λ k. 1 + k) (option_map has_count o)
-count_has_by n None = refl
-count_has_by n (Some ts) = refl
+count_has_by : (next : Bool) (n : Named) (o : Option (List Term)) → option_map has_count (option_map (Has next n.form n.name ∷◌) o) ≡ option_map (λ k. 1 + k) (option_map has_count o)
+count_has_by next n None = refl
+count_has_by next n (Some ts) = refl
 
 pub count-plain : (toks rest : List Tok) (t : Tok) → 0 < length toks → t ≡ get_or toks 0 t → is_has t ≡ false → rest ≡ drop 1 toks → option_map has_count (terms rest) ≡ option_map has_count (terms toks)
 count-plain [] rest t p e f r = absurd (omega arith)
@@ -265,7 +265,7 @@ count-plain (u ∷ us) rest t p e f r = let g : is_has u ≡ false = rw e at f i
 
 count_shaped : (t : Tok) (ts : List Tok) (o : Option Named) (form : Form) (after : List Tok) → is_has t ≡ true → has_name ts ≡ o → ◌≡◌ {A = Option (Form × List Tok)} (Some (form, after)) (option_map shape o) → option_map (λ k. 1 + k) (option_map has_count (terms (drop 1 after))) ≡ option_map has_count (terms (t ∷ ts))
 count_shaped t ts None form after e f g = cc
-count_shaped t ts (Some n) form after e f g = let same : n.after ≡ after = same_after form n.form after n.after g in rw (terms-has t ts n e f, ← same) (sym (count_has_by n (terms (drop 1 n.after))))
+count_shaped t ts (Some n) form after e f g = let same : n.after ≡ after = same_after form n.form after n.after g in rw (terms-has t ts n e f, ← same) (sym (count_has_by (is_has_next t) n (terms (drop 1 n.after))))
 
 pub count-has : (toks rest : List Tok) (t : Tok) (form : Form) (after : List Tok) → 0 < length toks → t ≡ get_or toks 0 t → is_has t ≡ true → rest ≡ drop 1 toks → ◌≡◌ {A = Option (Form × List Tok)} (Some (form, after)) (option_map shape (has_name rest)) → option_map (λ k. 1 + k) (option_map has_count (terms (drop 1 after))) ≡ option_map has_count (terms toks)
 count-has [] rest t form after p e f r g = absurd (omega arith)

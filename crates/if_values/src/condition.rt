@@ -26,8 +26,9 @@ fn whole(toks: &[Tok], has: &[bool]) -> Result<CondValue, CondFault>
     }
 }
 
-/// The value of the condition that the tokens make, where `has` has one entry for each `__has_include(..)` among them, in
-/// order: whether the header was found ([cpp.cond], [expr.const]). No `__has_include` may be malformed; `next_has` tells.
+/// The value of the condition that the tokens make, where `has` has one entry for each `__has_include(..)` and
+/// `__has_include_next(..)` among them, in order: whether the header was found ([cpp.cond], [expr.const]). None of them may
+/// be malformed; `next_has` tells.
 ///
 /// Integers are of 64 bits and wrap. Where a condition has no value, the fault is the first of these: `BadNumber` where a
 /// literal has no value, evaluated or not; `ConditionTooDeep`; `BadCondition` where the tokens make no condition; and the

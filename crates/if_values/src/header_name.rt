@@ -4,7 +4,7 @@ ghost use Rattle.scan_model.specs.HeaderName.{form_of, name_of, angled, header_o
 ghost use Rattle.if_values.specs.Names.{shape, name_shape, past_angle};
 
 use crate::token_tests::{
-    is_close_paren, is_greater, is_has, is_less, is_open_paren, is_plain_string,
+    is_close_paren, is_greater, is_has, is_has_next, is_less, is_open_paren, is_plain_string,
 };
 use scan_model::{Form, HasAt, HasNext, Kind, Tok};
 
@@ -90,7 +90,7 @@ fn header_or_name(toks: &[Tok]) -> Option<Name<'_>>
     }
 }
 
-/// The name in parentheses that these tokens begin with, which follow a `__has_include`; what follows it begins with
+/// The name in parentheses that these tokens begin with, which follow the word that asks; what follows it begins with
 /// the `)`. None exactly where they begin with no name in parentheses.
 pub(crate) fn has_name(toks: &[Tok]) -> Option<Name<'_>>
     ensures value { option_map name_shape result ≡ option_map shape (has_name toks.now) }
@@ -107,10 +107,10 @@ pub(crate) fn has_name(toks: &[Tok]) -> Option<Name<'_>>
     Some(name)
 }
 
-// The `__has_include` at this place.
-fn has_at(toks: &[Tok], place: usize) -> HasNext
+// The `__has_include`, or with `next` the `__has_include_next`, at this place.
+fn has_at(toks: &[Tok], place: usize, next: bool) -> HasNext
     requires { place < length toks.now }
-    ensures { result ≡ has_at (length toks.now) place (has_name (drop (place + 1) toks.now)) }
+    ensures { result ≡ has_at next (length toks.now) place (has_name (drop (place + 1) toks.now)) }
 {
     match has_name(&toks[place + 1..]) {
         None => HasNext::Bad(place),
@@ -118,13 +118,14 @@ fn has_at(toks: &[Tok], place: usize) -> HasNext
             first: place + 2,
             past: toks.len() - name.after.len(),
             form: name.form,
+            next,
         }),
     }
 }
 
-/// The first `__has_include` at a place or after it ([cpp.cond]): where the name in its parentheses stands and its form,
-/// or the place of the `__has_include` itself where no name in parentheses follows it. `End` exactly where there is no
-/// `__has_include`.
+/// The first `__has_include` or `__has_include_next` at a place or after it ([cpp.cond]): which of both it is, where the
+/// name in its parentheses stands and in which form it is written, or the place of the word itself where no name in
+/// parentheses follows it. `End` exactly where there is none.
 #[tactic(auto, unfolding(scan_model::specs::HeaderName::next_has))]
 pub fn next_has(toks: &[Tok], from: usize) -> HasNext
     requires { from ≤ length toks.now }
@@ -132,7 +133,7 @@ pub fn next_has(toks: &[Tok], from: usize) -> HasNext
 {
     'places: for place in from..toks.len() {
         if is_has(&toks[place]) {
-            return has_at(toks, place);
+            return has_at(toks, place, is_has_next(&toks[place]));
         }
     }
     HasNext::End

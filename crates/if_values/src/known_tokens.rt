@@ -12,14 +12,14 @@ use crate::token_tests::is_has;
 use scan_model::Tok;
 use std::marker::Model;
 
-/// What stands next in a condition: a token, or a whole `__has_include(..)` with its value.
+/// What stands next in a condition: a token, or a whole `__has_include(..)` or `__has_include_next(..)` with its value.
 #[derive(Clone, Copy)]
 pub(crate) enum Item<'a> {
     Plain(&'a Tok),
     Has(bool),
 }
 
-/// The tokens that are left of a condition, seen as their list, in which each `__has_include(..)` is one literal.
+/// The tokens that are left of a condition, seen as their list, in which each of these questions is one literal.
 #[derive(Drop)]
 pub(crate) struct KnownTokens<'a> {
     toks: &'a [Tok],

@@ -21,7 +21,7 @@ use crate::token_tests::{
 use scan_model::{CondValue, Kind, Tok};
 use word_table::attribute_value;
 
-/// A `__has_include(..)`.
+/// A `__has_include(..)` or `__has_include_next(..)`.
 pub(crate) fn known_leaf(known: bool) -> Operand
     ensures { result ≡ literal_operand (of_bool known) }
 {

@@ -1,7 +1,7 @@
 //! The value of the condition of `#if` and `#elif`, over tokens that are already replaced ([cpp.cond]).
 //!
-//! `next_has` finds the names that a `__has_include` asks for; `value` climbs the precedences over the tokens, with no
-//! tree and no memory of its own.
+//! `next_has` finds the names that `__has_include` and `__has_include_next` ask for; `value` climbs the precedences over
+//! the tokens, with no tree and no memory of its own.
 #![tactic(auto)]
 
 mod arithmetic;

@@ -56,7 +56,7 @@ fn add_all(alloc: Global, toks: &mut Vec<Tok>, words: &str, times: usize) -> Res
     Ok(())
 }
 
-// How many `__has_include` there are; none where one is malformed.
+// How many `__has_include` and `__has_include_next` there are; none where one is malformed.
 fn count(toks: &[Tok]) -> Option<usize>
     ensures { result ≡ option_map has_count (terms toks.now) }
 {
@@ -340,24 +340,33 @@ fn names_by_hand(rt: HostRuntime) -> Result<(), Fail> {
     add_all(
         alloc,
         &mut toks,
-        "__has_include ( <a> ) && __has_include ( 3 )",
+        "__has_include ( <a> ) && __has_include ( 3 ) || __has_include_next ( \"b\" ) && __has_include_next ( < )",
         1,
     )?;
     let first = HasAt {
         first: 2,
         past: 3,
         form: Form::Angled,
+        next: false,
     };
-    assert_eq!(rt; toks.len(), 9);
+    let second = HasAt {
+        first: 12,
+        past: 13,
+        form: Form::Quoted,
+        next: true,
+    };
+    assert_eq!(rt; toks.len(), 19);
     assert_eq!(rt; next_has(toks.as_slice(), 0), HasNext::At(first));
     assert_eq!(rt; next_has(toks.as_slice(), 3), HasNext::Bad(5));
-    assert_eq!(rt; next_has(toks.as_slice(), 9), HasNext::End);
+    assert_eq!(rt; next_has(toks.as_slice(), 6), HasNext::At(second));
+    assert_eq!(rt; next_has(toks.as_slice(), 13), HasNext::Bad(15));
+    assert_eq!(rt; next_has(toks.as_slice(), 19), HasNext::End);
     let one = Ok(CondValue {
         bits: 1,
         unsigned: false,
     });
     let words =
-        "__has_include ( <a> ) + 2 * __has_include ( \"b\" ) == __has_include ( < c / d > )";
+        "__has_include ( <a> ) + 2 * __has_include_next ( \"b\" ) == __has_include ( < c / d > )";
     assert_eq!(rt; value_of(alloc, words, &[true, false, true])?, one);
     Ok(())
 }

@@ -2,7 +2,7 @@ ghost use Rattle.std.specs.Prelude.{◌≡◌, ◌&&◌, nat_eq, [], ◌∷◌};
 ghost use lib.Pointwise.{pointwise};
 ghost use Rattle.scan_model.specs.declared.token.Kind.TheVariants.{Ident};
 ghost use Rattle.scan_model.specs.TokenTests.{is_of, is_sign, is_word, is_open_paren, is_close_paren, is_plain_string};
-ghost use Rattle.scan_model.specs.HeaderName.{is_has};
+ghost use Rattle.scan_model.specs.HeaderName.{is_has, is_has_next};
 
 use scan_model::{Kind, Tok};
 
@@ -74,11 +74,17 @@ fn is_word(tok: &Tok, word: &[u8]) -> bool
     is_identifier(tok) && word == tok.text.as_slice()
 }
 
-/// A `__has_include` ([cpp.cond]).
+/// A `__has_include` or a `__has_include_next` ([cpp.cond]).
 pub(crate) fn is_has(tok: &Tok) -> bool
     ensures { result ≡ is_has tok.now }
 {
-    is_word(tok, b"__has_include")
+    is_word(tok, b"__has_include") || is_has_next(tok)
+}
+
+pub(crate) fn is_has_next(tok: &Tok) -> bool
+    ensures { result ≡ is_has_next tok.now }
+{
+    is_word(tok, b"__has_include_next")
 }
 
 /// A `__has_cpp_attribute` ([cpp.cond]).

@@ -10,6 +10,3 @@ pub use fronts::{begins_with_comma, begins_with_hash, begins_with_paste};
 pub use kinds::{
     is_close_paren, is_comma, is_hash, is_identifier, is_named, is_open_paren, is_opt, is_paste,
 };
-
-#[cfg(test)]
-mod tests;

@@ -11,7 +11,7 @@ use std::slice;
 
 // The folder of this number, from 0, in one list after another.
 #[tactic(auto, using(crate::proofs::CandidateLemmas::chained_here, crate::proofs::CandidateLemmas::chained_later))]
-fn nth_of<'a>(lists: &[&'a [PathText]], k: u32) -> Option<&'a PathText>
+fn nth_of<'a>(lists: &[&'a [PathText]], k: u64) -> Option<&'a PathText>
     ensures { option_copied result ≡ slice_get (chained lists.now) k }
 {
     let mut left = k as usize;
@@ -42,8 +42,9 @@ fn nth_folder<'a>(
         list.after.as_slice(),
     ];
     match form {
-        Form::Quoted => nth_of(&lists, k),
-        Form::Angled => nth_of(&lists[2..], k),
+        Form::Quoted => nth_of(&lists, k as u64),
+        Form::Angled => nth_of(&lists[2..], k as u64),
+        Form::Next(n) => nth_of(&lists[1..], n as u64 + k as u64),
     }
 }
 
@@ -63,7 +64,8 @@ fn alone(alloc: Global, name: &[u8], k: u32) -> Result<Option<PathText>, NoMemor
 ///
 /// A name that begins with `/` is looked for by itself alone. Another one is looked for below each folder of `-I`, of
 /// `-isystem`, of the program and of `-idirafter`, in this order; a quoted one first below `from`, the including file's
-/// folder, and below each folder of `-iquote`. `Err` is want of memory.
+/// folder, and below each folder of `-iquote`. In the form `Next(n)` it is looked for below the folders of the chain from
+/// the number n on, from 0: those of `-iquote`, and then the others. `Err` is want of memory.
 #[tactic(auto, using(crate::proofs::CandidateLemmas::candidates_alone, crate::proofs::CandidateLemmas::candidates_below))]
 pub fn candidate(
     alloc: Global,

@@ -7,12 +7,14 @@ mod candidates;
 mod folders;
 mod joining;
 mod normal_form;
+mod places;
 mod segments;
 
 pub use candidates::candidate;
 pub use folders::folder;
 pub use joining::join;
 pub use normal_form::normal;
+pub use places::place;
 
 #[cfg(test)]
 mod tests;

@@ -1,10 +1,14 @@
-use crate::{candidate, folder, join, normal};
+ghost use Rattle.std.specs.Prelude.{◌<◌, length};
+ghost use Rattle.std.specs.Bool.{OnTrue};
+ghost use Rattle.scan_model.specs.Candidates.{chain};
+
+use crate::{candidate, folder, join, normal, place};
 use scan_model::{Form, Items, NoMemory, PathText, SearchList};
 use std::alloc::Global;
 use std::test::Fail;
 
 fn normal_is(alloc: Global, text: &[u8], expected: &[u8]) -> Result<bool, NoMemory> {
-    Ok(normal(alloc, text)?.as_slice() == expected)
+    Ok(normal(alloc, text)?.copy(alloc)?.as_slice() == expected)
 }
 
 fn join_is(alloc: Global, base: &[u8], name: &[u8], expected: &[u8]) -> Result<bool, NoMemory> {
@@ -133,6 +137,78 @@ fn candidates_by_hand(rt: HostRuntime) -> Result<(), Fail> {
     ];
     for (list, form, name, k, expected) in rows {
         assert!(rt; candidate_is(alloc, list, form, name, k, expected)?);
+    }
+    Ok(())
+}
+
+// The path of this number at which a name is looked for, empty where there is none, and the place that it gives, 0 for
+// none.
+#[derive(Clone, Copy)]
+struct Row {
+    form: Form,
+    name: &'static [u8],
+    k: u32,
+    path: &'static [u8],
+    place: u32,
+}
+
+macro_rules! rows {
+    ($($form:expr, $name:literal, $k:literal => $path:literal, $place:literal);* $(;)?) => {
+        [$(Row { form: $form, name: $name, k: $k, path: $path, place: $place }),*]
+    };
+}
+
+const ROWS: [Row; 11] = rows![
+    Form::Quoted, b"v.h", 0 => b"/p/a/v.h", 0;
+    Form::Quoted, b"v.h", 1 => b"/p/q/v.h", 1;
+    Form::Quoted, b"v.h", 3 => b"/s/v.h", 3;
+    Form::Angled, b"v.h", 0 => b"/p/i/v.h", 2;
+    Form::Angled, b"v.h", 1 => b"/s/v.h", 3;
+    Form::Next(0), b"v.h", 0 => b"/p/q/v.h", 1;
+    Form::Next(1), b"v.h", 1 => b"/s/v.h", 3;
+    Form::Next(2), b"v.h", 0 => b"/s/v.h", 3;
+    Form::Next(2), b"v.h", 1 => b"", 0;
+    Form::Next(3), b"v.h", 0 => b"", 0;
+    Form::Next(3), b"/v//h", 0 => b"/v/h", 0;
+];
+
+fn are_few(list: &SearchList, program: &Items<PathText>) -> bool
+    ensures { OnTrue result (length (chain list.now program.now) < 4294967295) }
+{
+    list.quote.as_slice().len() <= 9
+        && list.angled.as_slice().len() <= 9
+        && list.system.as_slice().len() <= 9
+        && program.as_slice().len() <= 9
+        && list.after.as_slice().len() <= 9
+}
+
+fn row_holds(alloc: Global, list: &SearchList, row: Row) -> Result<bool, Fail> {
+    let program = one(alloc, b"/s")?;
+    let from = normal(alloc, b"/p/a")?;
+    let found = candidate(alloc, list, &program, row.form, &from, row.name, row.k)?;
+    match found {
+        None => Ok(row.path.is_empty()),
+        Some(path) => {
+            if !are_few(list, &program) {
+                return Ok(false);
+            }
+            let given = place(list, &program, row.form, row.name, row.k);
+            Ok(path.as_slice() == row.path && given.unwrap_or(0) == row.place)
+        }
+    }
+}
+
+#[test]
+fn candidates_have_places(rt: HostRuntime) -> Result<(), Fail> {
+    let alloc = rt.alloc();
+    let list = SearchList {
+        quote: one(alloc, b"/p/q")?,
+        angled: one(alloc, b"/p/i")?,
+        system: Items::new(alloc),
+        after: Items::new(alloc),
+    };
+    for row in ROWS {
+        assert!(rt; row_holds(alloc, &list, row)?);
     }
     Ok(())
 }

@@ -45,17 +45,22 @@ fn last_two(toks: &[Tok]) -> &[Tok]
     }
 }
 
-// Whether after these tokens of a line a header name is tried first ([lex.header]): after `#include`, after a leading
-// `import`, with or without `export`, and after `__has_include (` in a condition.
+// Whether after these tokens of a line a header name is tried first ([lex.header]): after `#include` and
+// `#include_next`, after a leading `import`, with or without `export`, and after `__has_include (` and
+// `__has_include_next (` in a condition.
 pub fn wants_header(before: &[Tok]) -> bool
     ensures { result ≡ wants_header before.now }
 {
     let after_include = are_two(before, b"#", b"include") | are_two(before, b"%:", b"include");
+    let after_next = are_two(before, b"#", b"include_next")
+        | are_two(before, b"%:", b"include_next");
     let after_import = is_one(before, b"import");
     let after_export = are_two(before, b"export", b"import");
     let opening = first_two(before);
     let in_if = are_two(opening, b"#", b"if") | are_two(opening, b"%:", b"if");
     let in_elif = are_two(opening, b"#", b"elif") | are_two(opening, b"%:", b"elif");
-    let after_test = are_two(last_two(before), b"__has_include", b"(");
-    after_include | after_import | after_export | ((in_if | in_elif) & after_test)
+    let last = last_two(before);
+    let after_test = are_two(last, b"__has_include", b"(")
+        | are_two(last, b"__has_include_next", b"(");
+    after_include | after_next | after_import | after_export | ((in_if | in_elif) & after_test)
 }

@@ -215,6 +215,12 @@ fn header_names(rt: HostRuntime) -> Result<(), Fail> {
     reads(
         &rt,
         alloc,
+        b"%:include_next <a//b>\n#elif __has_include_next(<a b>)",
+        b"1-2 P%:|Iinclude_next H<a//b>\n2-3 P#|Ielif I__has_include_next|P(|H<a b>|P)\n",
+    )?;
+    reads(
+        &rt,
+        alloc,
         b"#ifdef __has_include(<a>",
         b"1-2 P#|Iifdef I__has_include|P(|P<|Ia|P>\n",
     )?;

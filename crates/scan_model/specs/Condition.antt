@@ -46,15 +46,15 @@ is_too_deep opened row questions before (t ∷ ts) =
 
 -- ## The whole
 
--- each `__has_include` as the literal 1 or 0
+-- each `__has_include` and `__has_include_next` as the literal 1 or 0
 abbrev pub has_literal : Bool → Tok
 has_literal b = record { kind = Number; text = if b then codes "1" else codes "0"; space = true; line = 0 }
 
 abbrev pub with_has : List Term → List Bool → List Tok
 with_has [] has = []
 with_has (Plain t ∷ rest) has = t ∷ with_has rest has
-with_has (Has form name ∷ rest) [] = with_has rest []
-with_has (Has form name ∷ rest) (b ∷ has) = has_literal b ∷ with_has rest has
+with_has (Has next form name ∷ rest) [] = with_has rest []
+with_has (Has next form name ∷ rest) (b ∷ has) = has_literal b ∷ with_has rest has
 
 abbrev pub value_of_tree : Option Tree → Result CondValue CondFault
 value_of_tree None = Err BadCondition

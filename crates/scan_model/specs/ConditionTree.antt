@@ -7,6 +7,7 @@ use Rattle.scan_model.specs.declared.token.Tok.{Tok}
 use Rattle.scan_model.specs.declared.condition.CondValue.{CondValue}
 use Rattle.scan_model.specs.Spelling.{spells}
 use Rattle.scan_model.specs.TokenTests.{is_of, is_word, is_sign, is_open_paren, is_close_paren}
+use Rattle.scan_model.specs.HeaderName.{is_has}
 use Rattle.scan_model.specs.Literals.{integer, char_value}
 
 -- ## The syntax tree
@@ -78,7 +79,7 @@ attribute ts = None
 abbrev pub identifier : Tok → Parser
 identifier t ts = let has_attribute = attribute ts in
     if is_word "__has_cpp_attribute" t then has_attribute
-    else if is_word "defined" t || is_word "__has_include" t then None
+    else if is_word "defined" t || is_has t then None
     else literal (Some (signed_value (if is_word "true" t then 1 else 0))) ts
 
 -- the tree, which `)` follows

@@ -17,7 +17,7 @@ use Rattle.scan_model.specs.Files.{FileMap}
 use Rattle.scan_model.specs.State.{Group, Setup, Core}
 use Rattle.scan_model.specs.Effect.{Effect, Now, fault, place_of, stop}
 use Rattle.scan_model.specs.Replacing.{with_replaced}
-use Rattle.scan_model.specs.Search.{searched, with_found}
+use Rattle.scan_model.specs.Search.{searched, search_form, with_found}
 use Rattle.scan_model.specs.declared.expansion.Mode.TheVariants as ModeIs
 use Rattle.scan_model.specs.declared.condition.CondFault.TheVariants as CondIs
 use Rattle.scan_model.specs.declared.unit_end.FaultKind.TheVariants as FaultIs
@@ -31,12 +31,12 @@ fault_of CondIs.BadShift = FaultIs.BadShift
 fault_of CondIs.BadNumber = FaultIs.BadNumber
 fault_of CondIs.ConditionTooDeep = FaultIs.ConditionTooDeep
 
--- each `__has_include` looked up in order, and then what `further` makes of the answers
+-- each `__has_include` and `__has_include_next` looked up in order, and then what `further` makes of the answers
 abbrev pub with_has_values : {X : Type 0} → FileMap X → Setup → Line → List Term → Core → (List Bool → Core → Effect X) → Effect X
 with_has_values files setup l [] c further = further [] c
 with_has_values files setup l (Plain t ∷ ts) c further = with_has_values files setup l ts c further
-with_has_values files setup l (Has form name ∷ ts) c further =
-    with_found files (place_of c l) (searched setup (record { form = form; name = name; after = [] }) (folder c.path)) c
+with_has_values files setup l (Has next form name ∷ ts) c further =
+    with_found files (place_of c l) (searched setup (record { form = search_form next c.chain_place form; name = name; after = [] }) (folder c.path)) c
     (λ c. with_has_values files setup l ts c (λ has. further (false ∷ has)))
     (λ path text c. with_has_values files setup l ts c (λ has. further (true ∷ has)))
 
@@ -53,7 +53,7 @@ abbrev pub with_condition : {X : Type 0} → FileMap X → Setup → Core → Li
 with_condition files setup c l toks further =
     with_replaced ModeIs.Condition c l toks (λ replaced. on_terms files setup c l replaced further (terms replaced))
 
--- the same for `#ifdef`
+-- the same for whether a name is defined
 abbrev pub with_defined : {X : Type 0} → Core → Line → List Tok → (Bool → Core → Effect X) → Effect X
 with_defined c l [] further = stop FaultIs.BadCondition c l
 with_defined c l (t ∷ ts) further = let known = further (is_some (c.macros.defs t.text)) c in
@@ -76,13 +76,23 @@ opened_skipped l c = Now (record c { stack = record { line = l.line; live = fals
 abbrev pub with_group : {X : Type 0} → Group → List Group → Core → Effect X
 with_group g gs c = Now (record c { stack = g ∷ gs })
 
-abbrev pub elif_line : {X : Type 0} → FileMap X → Setup → Core → Line → List Tok → List Group → Effect X
-elif_line files setup c l ts [] = stop FaultIs.Unbalanced c l
-elif_line files setup c l ts (g ∷ gs) =
-    let chosen = with_condition files setup c l ts (λ yields. with_group (record g { live = yields; taken = yields }) gs) in
+-- the next group of a conditional, whose condition is asked only where no group was taken
+abbrev pub next_group : {X : Type 0} → Core → Line → ((Bool → Core → Effect X) → Effect X) → List Group → Effect X
+next_group c l condition [] = stop FaultIs.Unbalanced c l
+next_group c l condition (g ∷ gs) =
+    let chosen = condition (λ yields. with_group (record g { live = yields; taken = yields }) gs) in
     if g.past_else then stop FaultIs.Unbalanced c l
     else if g.taken then with_group (record g { live = false }) gs c
     else chosen
+
+abbrev pub elif_line : {X : Type 0} → FileMap X → Setup → Core → Line → List Tok → List Group → Effect X
+elif_line files setup c l ts gs = next_group c l (with_condition files setup c l ts) gs
+
+abbrev pub elifdef_line : {X : Type 0} → Core → Line → List Tok → List Group → Effect X
+elifdef_line c l ts gs = next_group c l (with_defined c l ts) gs
+
+abbrev pub elifndef_line : {X : Type 0} → Core → Line → List Tok → List Group → Effect X
+elifndef_line c l ts gs = next_group c l (λ further. with_defined c l ts (λ yields. further (not yields))) gs
 
 abbrev pub else_line : {X : Type 0} → Core → Line → List Group → Effect X
 else_line c l [] = stop FaultIs.Unbalanced c l

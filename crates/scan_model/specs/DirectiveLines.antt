@@ -13,7 +13,7 @@ use Rattle.scan_model.specs.KeywordLines.{module_line}
 abbrev pub effect_of : {X : Type 0} → FileMap X → Setup → Core → Line → List Tok → Effect X
 effect_of files setup c l [] = Now c
 effect_of files setup c l (t ∷ ts) =
-    let hash = hash_line files setup c l (drop 1 ts) (directive_of ts) in
+    let hash = hash_line files setup c l (drop 1 ts) (directive_of setup.command.dialect ts) in
     let other = module_line c l (t ∷ ts) in
     if is_one_of ("#" ∷ "%:" ∷ []) t.text then hash else if is_skipped c.stack then Now c else other
 

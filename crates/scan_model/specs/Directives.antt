@@ -1,10 +1,14 @@
 -- What a line that begins with `#` does ([cpp.pre]).
-use Rattle.std.specs.Prelude.{ℕ, Bool, not, ◌&&◌, ◌||◌, nat_le, if◌then◌else◌, List, [], ◌∷◌, Option, Some, None}
+use Rattle.std.specs.Prelude.{ℕ, Bool, true, false, not, ◌&&◌, ◌||◌, nat_le, if◌then◌else◌, List, [], ◌∷◌, Option, Some, None}
 use Rattle.std.specs.List.{list_all}
 use Rattle.std.specs.Char.{is_ascii_digit}
 use Rattle.scan_model.specs.declared.token.Kind.TheVariants.{Ident, Number}
 use Rattle.scan_model.specs.declared.token.Tok.{Tok}
 use Rattle.scan_model.specs.declared.token.Line.{Line}
+use Rattle.scan_model.specs.declared.command.Dialect.{Dialect}
+use Rattle.scan_model.specs.declared.command.Dialect.TheVariants.{Cxx20, Cxx23}
+use Rattle.scan_model.specs.declared.directive.Directive.{Directive}
+use Rattle.scan_model.specs.declared.directive.Directive.TheVariants.{If, Ifdef, Ifndef, Elif, Elifdef, Elifndef, Else, Endif, Define, Undef, Include, IncludeNext, Renumber, Error, Pragma, Nothing, Unknown}
 use Rattle.scan_model.specs.declared.macros.Def.{Def}
 use Rattle.scan_model.specs.Spelling.{spells, is_one_of, is_ident}
 use Rattle.scan_model.specs.TokenTests.{is_of, is_word, is_open_paren, is_close_paren, is_plain_string, unquoted}
@@ -18,7 +22,7 @@ use Rattle.scan_model.specs.State.{Setup, Core}
 use Rattle.scan_model.specs.Effect.{Effect, Now, stop}
 use Rattle.scan_model.specs.Replacing.{with_replaced}
 use Rattle.scan_model.specs.Includes.{include_line}
-use Rattle.scan_model.specs.Conditionals.{opened, with_defined, else_line, opened_skipped, elif_line, is_skipped, with_condition, endif_line}
+use Rattle.scan_model.specs.Conditionals.{opened, with_defined, else_line, opened_skipped, elif_line, elifdef_line, elifndef_line, is_skipped, with_condition, endif_line}
 use Rattle.scan_model.specs.declared.expansion.Mode.TheVariants as ModeIs
 use Rattle.scan_model.specs.declared.unit_end.FaultKind.TheVariants as FaultIs
 
@@ -65,16 +69,20 @@ pragma_line c (t ∷ ts) =
 
 -- ## The directive's word
 
-pub data Directive : Type 0 where
-  If Ifdef Ifndef Elif Else Endif Define Undef Include Renumber Error Pragma Nothing Unknown : Directive
+-- one of C++23 alone
+abbrev pub from_cxx23 : Dialect → Directive → Directive
+from_cxx23 Cxx20 directive = Unknown
+from_cxx23 Cxx23 directive = directive
 
-abbrev pub directive_of : List Tok → Directive
-directive_of [] = Nothing
-directive_of (t ∷ ts) =
+abbrev pub directive_of : Dialect → List Tok → Directive
+directive_of dialect [] = Nothing
+directive_of dialect (t ∷ ts) =
     if is_of Number t || is_one_of ("warning" ∷ "ident" ∷ []) t.text then Nothing
     else if spells "if" t.text then If else if spells "ifdef" t.text then Ifdef else if spells "ifndef" t.text then Ifndef
     else if spells "elif" t.text then Elif else if spells "else" t.text then Else else if spells "endif" t.text then Endif
-    else if spells "define" t.text then Define else if spells "undef" t.text then Undef else if spells "include" t.text then Include
+    else if spells "elifdef" t.text then from_cxx23 dialect Elifdef else if spells "elifndef" t.text then from_cxx23 dialect Elifndef
+    else if spells "define" t.text then Define else if spells "undef" t.text then Undef
+    else if spells "include" t.text then Include else if spells "include_next" t.text then IncludeNext
     else if spells "line" t.text then Renumber else if spells "error" t.text then Error else if spells "pragma" t.text then Pragma
     else Unknown
 
@@ -82,7 +90,8 @@ directive_of (t ∷ ts) =
 abbrev pub plain_line : {X : Type 0} → FileMap X → Setup → Core → Line → List Tok → Directive → Effect X
 plain_line files setup c l ts Define = defined c l (read_define ts)
 plain_line files setup c l ts Undef = undef_line c l ts
-plain_line files setup c l ts Include = include_line files setup c l ts
+plain_line files setup c l ts Include = include_line false files setup c l ts
+plain_line files setup c l ts IncludeNext = include_line true files setup c l ts
 plain_line files setup c l ts Renumber = with_replaced ModeIs.Line c l ts (line_set c l)
 plain_line files setup c l ts Error = stop FaultIs.ErrorDirective c l
 plain_line files setup c l ts Pragma = pragma_line c ts
@@ -97,6 +106,8 @@ hash_line files setup c l ts Ifdef = let chosen = with_defined c l ts (opened l)
 hash_line files setup c l ts Ifndef = let chosen = with_defined c l ts (λ yields. opened l (not yields)) in
     if is_skipped c.stack then opened_skipped l c else chosen
 hash_line files setup c l ts Elif = elif_line files setup c l ts c.stack
+hash_line files setup c l ts Elifdef = elifdef_line c l ts c.stack
+hash_line files setup c l ts Elifndef = elifndef_line c l ts c.stack
 hash_line files setup c l ts Else = else_line c l c.stack
 hash_line files setup c l ts Endif = endif_line c l c.stack
 hash_line files setup c l ts other = let plain = plain_line files setup c l ts other in

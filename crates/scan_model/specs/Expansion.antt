@@ -130,6 +130,7 @@ module _ (again : List Marked → ℕ → ℕ → Ran) (e : Scope) where
       let ran = out (instead Number (decimal counter) m) (again rest (cost + 2) (counter + 1)) in
       if in_text e.mode then paid (cost + 2) ran else Failed Gives.Counter
   built_in BuiltInIs.HasInclude m rest cost counter = out m (again rest cost counter)
+  built_in BuiltInIs.HasIncludeNext m rest cost counter = out m (again rest cost counter)
   built_in BuiltInIs.HasAttribute m rest cost counter = out m (again rest cost counter)
 
   abbrev pub with_arg : Arg → Replaced → Replaced

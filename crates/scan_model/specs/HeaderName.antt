@@ -1,5 +1,5 @@
 -- The names of headers in tokens ([cpp.include], [cpp.cond]).
-use Rattle.std.specs.Prelude.{ℕ, zero, suc, ◌+◌, ◌-◌, Bool, ◌==◌, if◌then◌else◌, List, [], ◌∷◌, ◌++◌, drop, length, Option, Some, None}
+use Rattle.std.specs.Prelude.{ℕ, zero, suc, ◌+◌, ◌-◌, Bool, ◌||◌, ◌==◌, if◌then◌else◌, List, [], ◌∷◌, ◌++◌, drop, length, Option, Some, None}
 use Rattle.std.specs.Option.{option_map, option_map_or}
 use Rattle.scan_model.specs.declared.token.Kind.TheVariants.{Header}
 use Rattle.scan_model.specs.declared.token.Tok.{Tok}
@@ -56,10 +56,14 @@ abbrev pub header_or_name : List Tok → Option Named
 header_or_name [] = None
 header_or_name (t ∷ ts) = let name = name_of (t ∷ ts) in if is_of Header t then Some (header t ts) else name
 
--- ## `__has_include`
+-- ## `__has_include` and `__has_include_next`
 
+abbrev pub is_has_next : Tok → Bool
+is_has_next t = is_word "__has_include_next" t
+
+-- one of both
 abbrev pub is_has : Tok → Bool
-is_has t = is_word "__has_include" t
+is_has t = is_word "__has_include" t || is_has_next t
 
 -- the name of a header in parentheses, and what follows the name
 abbrev pub before_close : Named → Option Named
@@ -74,37 +78,38 @@ has_name (t ∷ ts) =
     let name = option_map_or before_close (header_or_name ts) None in
     if is_open_paren t then name else None
 
--- at the place k, where `__has_include` stands in a list of n tokens before the given ones
-abbrev pub has_at : ℕ → ℕ → Option Named → HasNext
-has_at n k None = Bad k
-has_at n k (Some name) = At (record { first = k + 2; past = n - length name.after; form = name.form })
+-- at the place k, where one of both stands in a list of n tokens before the given ones
+abbrev pub has_at : Bool → ℕ → ℕ → Option Named → HasNext
+has_at next n k None = Bad k
+has_at next n k (Some name) = At (record { first = k + 2; past = n - length name.after; form = name.form; next = next })
 
 -- the first one of the tokens from the place k on, in a list of n tokens
 abbrev pub next_has_from : ℕ → ℕ → List Tok → HasNext
 next_has_from n k [] = End
 next_has_from n k (t ∷ ts) = let further = next_has_from n (k + 1) ts in
-    let here = has_at n k (has_name ts) in
+    let here = has_at (is_has_next t) n k (has_name ts) in
     if is_has t then here else further
 
 unfoldable pub next_has : List Tok → ℕ → HasNext
 next_has toks from = next_has_from (length toks) from (drop from toks)
 
--- A list of tokens in which each `__has_include` with its name is one item.
+-- A list of tokens in which each `__has_include` or `__has_include_next` with its name is one item, which says whether it
+-- is the second.
 pub data Term : Type 0 where
   Plain : Tok → Term
-  Has : Form → List ℕ → Term
+  Has : Bool → Form → List ℕ → Term
 
 -- none where one is malformed; each term takes a token at least
-abbrev pub has_term : Option Named → (List Tok → Option (List Term)) → Option (List Term)
-has_term None further = None
-has_term (Some n) further = option_map (Has n.form n.name ∷◌) (further (drop 1 n.after))
+abbrev pub has_term : Bool → Option Named → (List Tok → Option (List Term)) → Option (List Term)
+has_term next None further = None
+has_term next (Some n) further = option_map (Has next n.form n.name ∷◌) (further (drop 1 n.after))
 
 abbrev pub terms_up_to : ℕ → List Tok → Option (List Term)
 terms_up_to zero ts = Some []
 terms_up_to (suc n) [] = Some []
 terms_up_to (suc n) (t ∷ ts) =
     let plain = option_map (Plain t ∷◌) (terms_up_to n ts) in
-    let has = has_term (has_name ts) (terms_up_to n) in
+    let has = has_term (is_has_next t) (has_name ts) (terms_up_to n) in
     if is_has t then has else plain
 
 unfoldable pub terms : List Tok → Option (List Term)

@@ -5,6 +5,7 @@ pub mod Lines
 pub mod TokenTests
 pub mod Parentheses
 pub mod Paste
+pub mod Dialects
 pub mod Macros
 pub mod MacroDefinition
 pub mod Substitution
@@ -27,8 +28,10 @@ pub mod Search
 pub mod Includes
 pub mod Conditionals
 pub mod Directives
+pub mod Skips
 pub mod KeywordLines
 pub mod DirectiveLines
 pub mod WholeFile
 pub mod WholeUnit
 pub mod Answer
+pub mod Limits

@@ -103,7 +103,7 @@ def_of (t ∷ ts) =
 
 -- no macro may have this name
 abbrev pub is_forbidden : List ℕ → Bool
-is_forbidden name = is_one_of ("defined" ∷ "__has_include" ∷ "__has_cpp_attribute" ∷ "__VA_ARGS__" ∷ "__VA_OPT__" ∷ []) name
+is_forbidden name = is_one_of ("defined" ∷ "__has_include" ∷ "__has_include_next" ∷ "__has_cpp_attribute" ∷ "__VA_ARGS__" ∷ "__VA_OPT__" ∷ []) name
 
 -- the name and its definition, or none for a bad one
 unfoldable pub read_define : List Tok → Option (List ℕ × Def)

@@ -1,8 +1,11 @@
 -- Macro definitions, and those that `push_macro` saved ([cpp.replace], [cpp.predefined]).
-use Rattle.std.specs.Prelude.{ℕ, if◌then◌else◌, List, [], ◌∷◌, Option, Some, None}
+use Rattle.std.specs.Prelude.{ℕ, false, if◌then◌else◌, List, [], ◌∷◌, Option, Some, None, codes}
+use Rattle.scan_model.specs.declared.token.Kind.TheVariants.{Number}
 use Rattle.scan_model.specs.declared.macros.Def.{Def}
 use Rattle.scan_model.specs.declared.macros.Def.TheVariants as DefIs
 use Rattle.scan_model.specs.declared.macros.BuiltIn.TheVariants as BuiltInIs
+use Rattle.scan_model.specs.declared.command.Dialect.{Dialect}
+use Rattle.scan_model.specs.declared.command.Dialect.TheVariants.{Cxx20, Cxx23}
 use Rattle.scan_model.specs.Spelling.{spells}
 use Rattle.scan_model.specs.TokenTests.{same}
 
@@ -24,6 +27,7 @@ built_in name =
     else if spells "__COUNTER__" name then Some (DefIs.BuiltIn BuiltInIs.Counter)
     else if spells "__cplusplus" name then Some (DefIs.BuiltIn BuiltInIs.Cplusplus)
     else if spells "__has_include" name then Some (DefIs.BuiltIn BuiltInIs.HasInclude)
+    else if spells "__has_include_next" name then Some (DefIs.BuiltIn BuiltInIs.HasIncludeNext)
     else if spells "__has_cpp_attribute" name then Some (DefIs.BuiltIn BuiltInIs.HasAttribute)
     else None
 
@@ -35,6 +39,18 @@ define m name def = record m { defs = put m.defs name (Some def) }
 
 abbrev pub undef : Macros → List ℕ → Macros
 undef m name = record m { defs = put m.defs name None }
+
+-- ## The map that a unit begins with
+
+-- in C++23 `__cplusplus` is an ordinary macro
+abbrev pub cplusplus_23 : Def
+cplusplus_23 = DefIs.Object (record { kind = Number; text = codes "202302L"; space = false; line = 0 } ∷ [])
+
+abbrev pub first_macros : Dialect → Macros
+first_macros Cxx20 = built_ins
+first_macros Cxx23 = define built_ins (codes "__cplusplus") cplusplus_23
+
+-- ## Saved definitions
 
 -- saves the name's definition, or that it has none
 abbrev pub push : Macros → List ℕ → Macros

@@ -1,5 +1,5 @@
 -- The state of a unit that is run, and how it stops ([cpp]).
-use Rattle.std.specs.Prelude.{ℕ, Bool, List}
+use Rattle.std.specs.Prelude.{ℕ, Bool, List, Option}
 use Rattle.scan_model.specs.declared.token.Tok.{Tok}
 use Rattle.scan_model.specs.declared.expansion.Site.{Site}
 use Rattle.scan_model.specs.declared.unit_end.Fault.{Fault}
@@ -21,10 +21,11 @@ pub record Setup : Type 0 where
   pub settings : Settings
   pub command : Command
 
--- what directives read and change
+-- what directives read and change; the place is the current file's in the chain of folders, where it has one
 pub record Core : Type 0 where
   pub path : List ℕ
   pub site : Site
+  pub chain_place : Option ℕ
   pub stack : List Group
   pub macros : Macros
   pub once : List ℕ → Bool

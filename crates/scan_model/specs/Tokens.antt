@@ -81,8 +81,8 @@ are_directive words ts = are ("#" ∷ words) ts || are ("%:" ∷ words) ts
 unfoldable pub wants_header : List Tok → Bool
 wants_header ts =
     let opening = take 2 ts in
-    are_directive ("include" ∷ []) ts || are ("import" ∷ []) ts || are ("export" ∷ "import" ∷ []) ts
-    || ((are_directive ("if" ∷ []) opening || are_directive ("elif" ∷ []) opening) && are ("__has_include" ∷ "(" ∷ []) (drop (length ts - 2) ts))
+    are_directive ("include" ∷ []) ts || are_directive ("include_next" ∷ []) ts || are ("import" ∷ []) ts || are ("export" ∷ "import" ∷ []) ts
+    || ((are_directive ("if" ∷ []) opening || are_directive ("elif" ∷ []) opening) && (are ("__has_include" ∷ "(" ∷ []) (drop (length ts - 2) ts) || are ("__has_include_next" ∷ "(" ∷ []) (drop (length ts - 2) ts)))
 
 abbrev pub is_token : List ℕ → Bool
 is_token s = is_name s || is_number s || is_char s || is_quoted 34 s || is_punct s

@@ -1,5 +1,5 @@
 -- One step over a line of a whole file, and the file ([cpp.pre], [cpp.include]).
-use Rattle.std.specs.Prelude.{ℕ, zero, suc, ◌+◌, ◌-◌, nat_le, if◌then◌else◌, List, [], ◌∷◌, ◌++◌}
+use Rattle.std.specs.Prelude.{ℕ, zero, suc, ◌+◌, ◌-◌, nat_le, if◌then◌else◌, List, [], ◌∷◌, ◌++◌, Option}
 use Rattle.scan_model.specs.declared.token.Line.{Line}
 use Rattle.scan_model.specs.declared.expansion.Expanded.{Expanded}
 use Rattle.scan_model.specs.Lines.{is_directive}
@@ -42,13 +42,14 @@ full_lines enter files setup (l ∷ ls) s = then_go (full_lines enter files setu
 
 -- ## The file
 
-abbrev pub at_file_start : List ℕ → Core → Core
-at_file_start path c =
-    record c { path = path; site = first_site path; stack = []; entered = c.entered + 1 }
+abbrev pub at_file_start : List ℕ → Option ℕ → Core → Core
+at_file_start path chain_place c =
+    record c { path = path; site = first_site path; chain_place = chain_place; stack = []; entered = c.entered + 1 }
 
 -- the includer's own go on
 abbrev pub back_in : Core → Core → Core
-back_in includer c = record c { path = includer.path; site = includer.site; stack = includer.stack }
+back_in includer c =
+    record c { path = includer.path; site = includer.site; chain_place = includer.chain_place; stack = includer.stack }
 
 abbrev pub at_file_end : Core → State → List Group → Reached
 at_file_end includer s [] = Going (record s { core = back_in includer s.core })
@@ -60,19 +61,19 @@ abbrev pub View : Type 0 → Type 0
 View X = X → List Line
 
 -- a file from which others are entered by `enter`
-unfoldable pub full_file : {X : Type 0} → View X → Enter X → FileMap X → Setup → List ℕ → X → State → Reached
-full_file view enter files setup path text s =
+unfoldable pub full_file : {X : Type 0} → View X → Enter X → FileMap X → Setup → List ℕ → Option ℕ → X → State → Reached
+full_file view enter files setup path chain_place text s =
     then_go (λ last. at_file_end s.core (end_run last) last.core.stack)
-    (full_lines enter files setup (view text) (record s { core = at_file_start path s.core }))
+    (full_lines enter files setup (view text) (record s { core = at_file_start path chain_place s.core }))
 
 abbrev pub entered_limit : ℕ
 entered_limit = 65536
 
 -- Enters a file from which files may be entered n - 1 deep; a file of depth d is entered with n = 201 - d.
 unfoldable pub enter : {X : Type 0} → View X → FileMap X → Setup → ℕ → Enter X
-enter view files setup zero place path text s = halted (fault FaultIs.TooDeep place) s.core.looked s
-enter view files setup (suc n) place path text s =
-    let whole = full_file view (enter view files setup n) files setup path text s in
+enter view files setup zero place path chain_place text s = halted (fault FaultIs.TooDeep place) s.core.looked s
+enter view files setup (suc n) place path chain_place text s =
+    let whole = full_file view (enter view files setup n) files setup path chain_place text s in
     if nat_le entered_limit s.core.entered then halted (fault FaultIs.TooManyEntered place) s.core.looked s else whole
 
 abbrev pub enter_at_depth : {X : Type 0} → View X → FileMap X → Setup → ℕ → Enter X

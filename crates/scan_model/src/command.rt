@@ -1,10 +1,21 @@
 use crate::{Items, PathText, Text};
 
-/// The two forms of a header's name ([cpp.include]).
+/// How a header is looked for ([cpp.include]).
 #[derive(Clone, Copy, Debug, PartialEq, Eq)]
 pub enum Form {
+    /// As a quoted name: in the including file's folder first.
     Quoted,
+    /// As a name in angle brackets.
     Angled,
+    /// As `#include_next` does: in the folders of the chain from this number on, whichever form is written.
+    Next(u32),
+}
+
+/// The edition of the language that a command asks for, as far as a scan depends on it.
+#[derive(Clone, Copy, Debug, PartialEq, Eq)]
+pub enum Dialect {
+    Cxx20,
+    Cxx23,
 }
 
 /// The folders of a command in which headers are looked for.
@@ -41,6 +52,7 @@ pub struct Command {
     /// The names of `-include`, in order.
     pub forced: Items<Text>,
     pub search: SearchList,
+    pub dialect: Dialect,
 }
 
 /// What the program's own words say of every command.

@@ -23,17 +23,20 @@ pub enum CondFault {
     ConditionTooDeep,
 }
 
-/// Where the name of a `__has_include` stands among the tokens ([cpp.cond]).
+/// Where the name of a `__has_include` or `__has_include_next` stands among the tokens ([cpp.cond]).
 #[derive(Clone, Copy, Debug, PartialEq, Eq)]
 pub struct HasAt {
     /// The place of the name's first token, from 0.
     pub first: usize,
     /// The place after the name's last token.
     pub past: usize,
+    /// The form that is written: `Quoted` or `Angled`.
     pub form: Form,
+    /// Whether it is a `__has_include_next`.
+    pub next: bool,
 }
 
-/// The first `__has_include` of tokens.
+/// The first `__has_include` or `__has_include_next` of tokens.
 #[derive(Clone, Copy, Debug, PartialEq, Eq)]
 pub enum HasNext {
     /// There is none.

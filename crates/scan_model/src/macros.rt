@@ -17,6 +17,8 @@ pub enum BuiltIn {
     Cplusplus,
     /// `__has_include`
     HasInclude,
+    /// `__has_include_next`
+    HasIncludeNext,
     /// `__has_cpp_attribute`
     HasAttribute,
 }

@@ -1,7 +1,8 @@
-ghost use Rattle.std.specs.Prelude.{◌≡◌};
+ghost use Rattle.std.specs.Prelude.{◌≡◌, IfOk};
 ghost use Rattle.scan_model.specs.Paths.{IsNormal};
 
-use crate::Bytes;
+use crate::{Bytes, NoMemory};
+use std::alloc::Global;
 use std::marker::Model;
 
 /// A path in normal form, which contracts see as the list of its bytes. Two files are the same where their paths are.
@@ -27,6 +28,15 @@ impl PathText {
         ensures { result ≡ bytes }
     {
         PathText { bytes }
+    }
+
+    /// The same path in memory of its own. `Err` is want of memory.
+    pub fn copy(&self, alloc: Global) -> Result<PathText, NoMemory>
+        ensures { IfOk result (λ copy. copy ≡ self.now) }
+    {
+        Ok(PathText {
+            bytes: Bytes::copy(alloc, self.as_slice())?,
+        })
     }
 
     pub fn as_slice(&self) -> &[u8]

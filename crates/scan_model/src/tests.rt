@@ -1,4 +1,4 @@
-use crate::{Bytes, Items, PathText, Text};
+use crate::{Bytes, Items, Kind, PathText, Text, Tok};
 use std::test::Fail;
 
 #[test]
@@ -20,5 +20,64 @@ fn lists_hold_what_they_are_given(rt: HostRuntime) -> Result<(), Fail> {
     }
     assert_eq!(rt; items.as_slice(), [3, 1, 2].as_slice());
     assert_eq!(rt; Items::of_vec(items.into_vec()).as_slice().len(), 3);
+    Ok(())
+}
+
+// A token, and which of the tests it passes, in the order of `answers`.
+#[derive(Clone, Copy)]
+struct Row {
+    kind: Kind,
+    text: &'static [u8],
+    passes: [bool; 9],
+}
+
+fn answers(tok: &Tok) -> [bool; 9] {
+    [
+        tok.is_ident(),
+        tok.is_named(b"name"),
+        tok.is_opt(),
+        tok.is_hash(),
+        tok.is_paste(),
+        tok.is_comma(),
+        tok.is_open_paren(),
+        tok.is_close_paren(),
+        tok.is_plain_string(),
+    ]
+}
+
+macro_rules! rows {
+    ($($kind:ident $text:literal => $($passes:literal)*),* $(,)?) => {
+        [$(Row { kind: Kind::$kind, text: $text, passes: [$($passes),*] }),*]
+    };
+}
+
+const ROWS: [Row; 11] = rows![
+    Ident b"name" => true true false false false false false false false,
+    Ident b"__VA_OPT__" => true false true false false false false false false,
+    Stray b"name" => false false false false false false false false false,
+    Punct b"%:" => false false false true false false false false false,
+    Punct b"##" => false false false false true false false false false,
+    Punct b"," => false false false false false true false false false,
+    Punct b"(" => false false false false false false true false false,
+    Punct b")" => false false false false false false false true false,
+    Str b"\"a\"" => false false false false false false false false true,
+    Str b"L\"a\"" => false false false false false false false false false,
+    Str b"\"a\"_s" => false false false false false false false false false,
+];
+
+#[test]
+fn tokens_are_what_they_are_spelled(rt: HostRuntime) -> Result<(), Fail> {
+    let alloc = rt.alloc();
+    for row in ROWS {
+        let tok = Tok {
+            kind: row.kind,
+            text: Bytes::copy(alloc, row.text)?,
+            space: true,
+            line: 7,
+        };
+        let copy = tok.copy(alloc)?;
+        assert_eq!(rt; answers(&copy).as_slice(), row.passes.as_slice());
+        assert!(rt; copy.space && copy.line == 7);
+    }
     Ok(())
 }

@@ -21,7 +21,8 @@ use Rattle.scan_model.specs.Files.{FileMap}
 use Rattle.scan_model.specs.State.{Setup, State, Reached, Going, Stopped, Stop, Cause, Faulty, OutOfMemory, Needs}
 use Rattle.scan_model.specs.Stream.{Piece, ModuleLine, ModuleStop, module_lines, read_stream, take_lines, after_take}
 use Rattle.scan_model.specs.Effect.{stop_at, Enters, Enter}
-use Rattle.scan_model.specs.Search.{with_found, searched}
+use Rattle.scan_model.specs.Search.{with_found, searched, place_searched}
+use Rattle.scan_model.specs.HeaderName.{Named}
 use Rattle.scan_model.specs.Includes.{include}
 use Rattle.scan_model.specs.WholeFile.{View, enter}
 use Rattle.scan_model.specs.WholeUnit.{first_state, command_place, first_file, predefines, setting_text, set_first, set_all, force, force_all, full}
@@ -31,60 +32,62 @@ use Rattle.unit_laws.specs.Growth.{Extends, Begins, AnswerStays, LookedGrows, Ne
 use Rattle.unit_laws.proofs.GrowthLemmas.{Longer, longer_refl, LacksLast, grow, grow_with_found, grow_include, done_grows, looked_in, stream_in, SentAfter, Later, later_refl, lines_of_append, RunGrows, RunStays, StopStays, RunFits, StopFits, run_stays, run_if, then_grows, line_grows, enter_grows}
 
 module _ (X : Type 0) (view : View X) (files more : FileMap X) (extends : Extends X files more) (setup : Setup) where
-  abbrev Same : (State → Reached) → (State → Reached) → Type 0
+  abbrev pub Same : (State → Reached) → (State → Reached) → Type 0
   Same g h = (s : State) → RunGrows more s.core.looked s.stream (g s) (h s)
 
-  first_grows : (missing : FaultKind) (path : List ℕ) → Same (first_file view files setup missing path) (first_file view more setup missing path)
+  pub first_grows : (missing : FaultKind) (path : List ℕ) → Same (first_file view files setup missing path) (first_file view more setup missing path)
   first_grows missing path s = let place : Place = record { path = path; line = 0 } in
       done_grows X more (enter view files setup 201) (enter view more setup 201) (enter_grows X more view files extends setup 201) s.core.looked s
-      (with_found files place (path ∷ []) s.core (stop_at missing place) (Enters place)) (with_found more place (path ∷ []) s.core (stop_at missing place) (Enters place))
-      (grow_with_found X more files extends place (path ∷ []) s.core (stop_at missing place) (stop_at missing place) (Enters place) (Enters place)
-      (λ c. grow X more (stop_at missing place c) tt) (λ path x c. grow X more (Enters place path x c) tt))
+      (with_found files place (path ∷ []) s.core (stop_at missing place) (λ path. Enters place path None)) (with_found more place (path ∷ []) s.core (stop_at missing place) (λ path. Enters place path None))
+      (grow_with_found X more files extends place (path ∷ []) s.core (stop_at missing place) (stop_at missing place) (λ path. Enters place path None) (λ path. Enters place path None)
+      (λ c. grow X more (stop_at missing place c) tt) (λ path x c. grow X more (Enters place path None x c) tt))
 
   predefines_grow : (path : Option (List ℕ)) → Same (predefines view files setup path) (predefines view more setup path)
   predefines_grow None s = run_stays more s
   predefines_grow (Some path) s = first_grows FaultIs.IncludeNotFound path s
 
-  abbrev stay : Enter X
-  stay place path text s = Going s
+  abbrev pub stay : Enter X
+  stay place path chain_place text s = Going s
 
-  set_first_grows : (number : ℕ) (ls : List Line) → Same (set_first files setup number ls) (set_first more setup number ls)
+  pub set_first_grows : (number : ℕ) (ls : List Line) → Same (set_first files setup number ls) (set_first more setup number ls)
   set_first_grows number [] s = run_stays more s
   set_first_grows number (l ∷ ls) s = let m : Line = record l { line = number; next = number + 1 } in
-      line_grows X more stay stay files extends setup (λ place path x s. run_stays more s) s m
+      line_grows X more stay stay files extends setup (λ place path chain_place x s. run_stays more s) s m
 
-  set_all_grows : (number : ℕ) (settings : List Setting) → Same (set_all files setup number settings) (set_all more setup number settings)
+  pub set_all_grows : (number : ℕ) (settings : List Setting) → Same (set_all files setup number settings) (set_all more setup number settings)
   set_all_grows number [] s = run_stays more s
   set_all_grows number (setting ∷ rest) s =
       then_grows more s.core.looked s.stream (set_all files setup (number + 1) rest) (set_all more setup (number + 1) rest) (set_all_grows (number + 1) rest)
       (set_first files setup number (lines (setting_text setting)) s) (set_first more setup number (lines (setting_text setting)) s)
       (set_first_grows number (lines (setting_text setting)) s)
 
-  force_grows : (number : ℕ) (name : List ℕ) → Same (force view files setup number name) (force view more setup number name)
+  pub force_grows : (number : ℕ) (name : List ℕ) → Same (force view files setup number name) (force view more setup number name)
   force_grows number name s =
-      let paths = searched setup (record { form = Quoted; name = name; after = [] }) setup.command.directory in
+      let named : Named = record { form = Quoted; name = name; after = [] } in
+      let paths = searched setup named setup.command.directory in
+      let places = place_searched setup named setup.command.directory in
       let place = command_place number in
       run_if more s.core.looked s.stream (length name == 0) _ _ _ _ (longer_refl s.core.looked, later_refl s.core.looked s.stream, refl, tt)
       (done_grows X more (enter view files setup 200) (enter view more setup 200) (enter_grows X more view files extends setup 200) s.core.looked s
-      (include files place paths s.core) (include more place paths s.core) (grow_include X more files extends place paths s.core))
+      (include files place paths places s.core) (include more place paths places s.core) (grow_include X more files extends place paths places s.core))
 
-  force_all_grows : (number : ℕ) (names : List (List ℕ)) → Same (force_all view files setup number names) (force_all view more setup number names)
+  pub force_all_grows : (number : ℕ) (names : List (List ℕ)) → Same (force_all view files setup number names) (force_all view more setup number names)
   force_all_grows number [] s = run_stays more s
   force_all_grows number (name ∷ names) s =
       then_grows more s.core.looked s.stream (force_all view files setup (number + 1) names) (force_all view more setup (number + 1) names) (force_all_grows (number + 1) names)
       (force view files setup number name s) (force view more setup number name s) (force_grows number name s)
 
-  full_grows : RunGrows more [] [] (full view files setup) (full view more setup)
+  pub full_grows : RunGrows more [] [] (full view files setup) (full view more setup)
   unfolding full
   full_grows =
       then_grows more [] [] _ _ (first_grows FaultIs.MainMissing setup.command.main) _ _
       (then_grows more [] [] _ _ (force_all_grows (length setup.command.settings + 1) setup.command.forced) _ _
       (then_grows more [] [] _ _ (set_all_grows 1 setup.command.settings) _ _
-      (predefines_grow setup.settings.predefines first_state)))
+      (predefines_grow setup.settings.predefines (first_state setup.command.dialect))))
 
 -- ## Answers
 
-abbrev IsFault : {A B : Type 0} → Result A B → Type 0
+abbrev pub IsFault : {A B : Type 0} → Result A B → Type 0
 IsFault (Ok x) = ⊥
 IsFault (Err x) = ⊤
 
@@ -93,24 +96,24 @@ one_taken : (g h : Builder → Result Builder ModuleStop) (l : ModuleLine) (stop
 one_taken g h l stop each (Ok b) k = each b k
 one_taken g h l stop each (Err x) k = k
 
-fault_kept : (ls rest : List ModuleLine) (stop : ModuleStop) (b : Builder) → take_lines ls b ≡ Err stop → take_lines (ls ++ rest) b ≡ Err stop
+pub fault_kept : (ls rest : List ModuleLine) (stop : ModuleStop) (b : Builder) → take_lines ls b ≡ Err stop → take_lines (ls ++ rest) b ≡ Err stop
 fault_kept [] rest stop b k = absurd (subst IsFault (sym k) tt)
 fault_kept (l ∷ ls) rest stop b k =
     one_taken (take_lines ls) (take_lines (ls ++ rest)) l stop (λ b k. fault_kept ls rest stop b k) (take b l.exported l.keyword l.toks) k
 
-read_kept : (command : Command) (looked : List (List ℕ)) (ps qs : List Piece) (stop : ModuleStop) → Later looked ps qs → read_stream command ps ≡ Err stop → read_stream command qs ≡ Err stop
+pub read_kept : (command : Command) (looked : List (List ℕ)) (ps qs : List Piece) (stop : ModuleStop) → Later looked ps qs → read_stream command ps ≡ Err stop → read_stream command qs ≡ Err stop
 unfolding read_stream
 read_kept command looked ps qs stop h k =
     ap (λ z. take_lines (module_lines z) (new command.output command.source)) h.1
     ∙ ap (λ z. take_lines z (new command.output command.source)) (lines_of_append ps h.0)
     ∙ fault_kept (module_lines ps) (module_lines h.0) stop (new command.output command.source) k
 
-end_by_fault : (command : Command) (f : Reached) (stop : ModuleStop) → read_stream command (stream_in f) ≡ Err stop →
+pub end_by_fault : (command : Command) (f : Reached) (stop : ModuleStop) → read_stream command (stream_in f) ≡ Err stop →
     (end_of command f ≡ Known (Ends.Stopped stop.fault)) × (looks_of command f ≡ stop.looked)
 end_by_fault command (Going s) stop k = (ap record_of k, ap (looked_of s.core.looked) k)
 end_by_fault command (Stopped a) stop k = (ap (fault_or (answer_of a.cause)) k, ap (looked_of a.looked) k)
 
-abbrev IsUnread : Answer → Type 0
+abbrev pub IsUnread : Answer → Type 0
 IsUnread (Known end) = ⊥
 IsUnread (Unread path) = ⊤
 
@@ -153,12 +156,12 @@ one_more : (g h further : Builder → Result Builder ModuleStop) (l : ModuleLine
 one_more g h further l last each (Ok b) k = each b k
 one_more g h further l last each (Err x) k = absurd (subst IsFault k tt)
 
-lines_go_on : (ls rest : List ModuleLine) (b last : Builder) → take_lines ls b ≡ Ok last → take_lines (ls ++ rest) b ≡ take_lines rest last
+pub lines_go_on : (ls rest : List ModuleLine) (b last : Builder) → take_lines ls b ≡ Ok last → take_lines (ls ++ rest) b ≡ take_lines rest last
 lines_go_on [] rest b last k = let same : b ≡ last = cc in ap (take_lines rest) same
 lines_go_on (l ∷ ls) rest b last k =
     one_more (take_lines ls) (take_lines (ls ++ rest)) (take_lines rest) l last (λ b k. lines_go_on ls rest b last k) (take b l.exported l.keyword l.toks) k
 
-read_on : (command : Command) (looked : List (List ℕ)) (ps qs : List Piece) (last : Builder) → (h : Later looked ps qs) → read_stream command ps ≡ Ok last →
+pub read_on : (command : Command) (looked : List (List ℕ)) (ps qs : List Piece) (last : Builder) → (h : Later looked ps qs) → read_stream command ps ≡ Ok last →
     read_stream command qs ≡ take_lines (module_lines h.0) last
 unfolding read_stream
 read_on command looked ps qs last h k =
@@ -167,7 +170,7 @@ read_on command looked ps qs last h k =
     ∙ lines_go_on (module_lines ps) (module_lines h.0) (new command.output command.source) last k
 
 -- where all lines were sent after these paths, what is looked at up to the first fault begins with them
-abbrev LooksOn : List (List ℕ) → List (List ℕ) → Result Builder ModuleStop → Type 0
+abbrev pub LooksOn : List (List ℕ) → List (List ℕ) → Result Builder ModuleStop → Type 0
 LooksOn paths looked r = Longer paths (looked_of looked r)
 
 one_looks : (paths looked : List (List ℕ)) (g : Builder → Result Builder ModuleStop) (l : ModuleLine) → Longer paths l.looked → ((b : Builder) → LooksOn paths looked (g b)) →
@@ -175,11 +178,11 @@ one_looks : (paths looked : List (List ℕ)) (g : Builder → Result Builder Mod
 one_looks paths looked g l h each (Ok b) = each b
 one_looks paths looked g l h each (Err x) = h
 
-lines_look : (paths looked : List (List ℕ)) → Longer paths looked → (ls : List ModuleLine) → SentAfter paths ls → (b : Builder) → LooksOn paths looked (take_lines ls b)
+pub lines_look : (paths looked : List (List ℕ)) → Longer paths looked → (ls : List ModuleLine) → SentAfter paths ls → (b : Builder) → LooksOn paths looked (take_lines ls b)
 lines_look paths looked h [] k b = h
 lines_look paths looked h (l ∷ ls) k b = one_looks paths looked (take_lines ls) l k.0 (lines_look paths looked h ls k.1) (take b l.exported l.keyword l.toks)
 
-looks_in : (command : Command) (f : Reached) → looks_of command f ≡ looked_of (looked_in f) (read_stream command (stream_in f))
+pub looks_in : (command : Command) (f : Reached) → looks_of command f ≡ looked_of (looked_in f) (read_stream command (stream_in f))
 looks_in command (Going s) = refl
 looks_in command (Stopped a) = refl
 

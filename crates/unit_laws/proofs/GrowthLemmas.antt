@@ -32,10 +32,12 @@ use Rattle.scan_model.specs.State.{Group, Setup, Core, State, Cause, Faulty, Out
 use Rattle.scan_model.specs.Stream.{ModuleLine, Piece, Run, Sent, module_lines}
 use Rattle.scan_model.specs.Effect.{Effect, Now, Enters, Sends, Halts, Enter, done, place_of, stop, stop_at}
 use Rattle.scan_model.specs.Replacing.{on_expanded, with_replaced}
-use Rattle.scan_model.specs.Search.{on_found, with_found, searched}
-use Rattle.scan_model.specs.Includes.{unless_once, include, include_named, include_line}
-use Rattle.scan_model.specs.Conditionals.{with_has_values, on_value, on_terms, with_condition, with_defined, is_skipped, opened, opened_skipped, with_group, elif_line, else_line, endif_line}
-use Rattle.scan_model.specs.Directives.{Directive, If, Ifdef, Ifndef, Elif, Else, Endif, Define, Undef, Include, Renumber, Error, Pragma, Nothing, Unknown, directive_of, plain_line, hash_line, defined, undef_line, line_set, pragma_line, with_macros, quoted_name, is_line_number}
+use Rattle.scan_model.specs.Search.{on_found, with_found, searched, place_searched, search_form}
+use Rattle.scan_model.specs.Includes.{unless_once, include, include_by, include_named, include_line}
+use Rattle.scan_model.specs.Conditionals.{with_has_values, on_value, on_terms, with_condition, with_defined, is_skipped, opened, opened_skipped, with_group, next_group, elif_line, elifdef_line, elifndef_line, else_line, endif_line}
+use Rattle.scan_model.specs.declared.directive.Directive.{Directive}
+use Rattle.scan_model.specs.declared.directive.Directive.TheVariants.{If, Ifdef, Ifndef, Elif, Elifdef, Elifndef, Else, Endif, Define, Undef, Include, IncludeNext, Renumber, Error, Pragma, Nothing, Unknown}
+use Rattle.scan_model.specs.Directives.{directive_of, plain_line, hash_line, defined, undef_line, line_set, pragma_line, with_macros, quoted_name, is_line_number}
 use Rattle.scan_model.specs.KeywordLines.{module_line, keyword_line, is_object_like, as_keyword, sent}
 use Rattle.scan_model.specs.DirectiveLines.{effect_of, effect}
 use Rattle.scan_model.specs.WholeFile.{View, entered_limit, end_run, run_done, full_line, full_lines, full_file, enter, at_file_end, at_file_start, joined}
@@ -51,19 +53,19 @@ longer_refl a = ([], sym (append-nil a))
 pub longer_trans : {A : Type 0} (a b c : List A) → Longer a b → Longer b c → Longer a c
 longer_trans a b c h k = (h.0 ++ k.0, k.1 ∙ ap (λ z. z ++ k.0) h.1 ∙ append_assoc a h.0 k.0)
 
-longer_front : {A : Type 0} (c a b : List A) → Longer a b → Longer (c ++ a) (c ++ b)
+pub longer_front : {A : Type 0} (c a b : List A) → Longer a b → Longer (c ++ a) (c ++ b)
 longer_front c a b h = (h.0, ap (λ z. c ++ z) h.1 ∙ sym (append_assoc c a h.0))
 
 abbrev pub core_of : {X : Type 0} → Effect X → Core
 core_of (Now c) = c
-core_of (Enters place path x c) = c
+core_of (Enters place path chain_place x c) = c
 core_of (Sends l c) = c
 core_of (Halts cause c) = c
 
 -- an effect stays, unless it needs a path; and then what was looked at stays
 abbrev pub Stays : {X : Type 0} → Effect X → Effect X → Type 0
 Stays (Now c) f = Now c ≡ f
-Stays (Enters place path x c) f = Enters place path x c ≡ f
+Stays (Enters place path chain_place x c) f = Enters place path chain_place x c ≡ f
 Stays (Sends l c) f = Sends l c ≡ f
 Stays (Halts (Faulty x) c) f = Halts (Faulty x) c ≡ f
 Stays (Halts OutOfMemory c) f = Halts OutOfMemory c ≡ f
@@ -71,7 +73,7 @@ Stays (Halts (Needs path) c) f = Longer c.looked (core_of f).looked
 
 stays_refl : {X : Type 0} (e : Effect X) → Stays e e
 stays_refl (Now c) = refl
-stays_refl (Enters place path x c) = refl
+stays_refl (Enters place path chain_place x c) = refl
 stays_refl (Sends l c) = refl
 stays_refl (Halts (Faulty x) c) = refl
 stays_refl (Halts OutOfMemory c) = refl
@@ -86,40 +88,40 @@ module _ (X : Type 0) (more : FileMap X) where
   -- a line is sent with what was looked at, and a path that is needed is the last of that
   abbrev pub Fit : Effect X → Type 0
   Fit (Now c) = ⊤
-  Fit (Enters place path x c) = ⊤
+  Fit (Enters place path chain_place x c) = ⊤
   Fit (Sends l c) = l.looked ≡ c.looked
   Fit (Halts (Faulty x) c) = ⊤
   Fit (Halts OutOfMemory c) = ⊤
   Fit (Halts (Needs path) c) = LacksLast more path c.looked
 
-  abbrev GoesOn : List (List ℕ) → Effect X → Effect X → Type 0
+  abbrev pub GoesOn : List (List ℕ) → Effect X → Effect X → Type 0
   GoesOn looked e f = Longer looked (core_of f).looked × Stays e f
 
   abbrev pub Grows : List (List ℕ) → Effect X → Effect X → Type 0
   Grows looked e f = Longer looked (core_of f).looked × Stays e f × Fit f
 
-  goes_on : (e : Effect X) → GoesOn (core_of e).looked e e
+  pub goes_on : (e : Effect X) → GoesOn (core_of e).looked e e
   goes_on e = (longer_refl (core_of e).looked, stays_refl e)
 
   -- an effect that leaves what was looked at
   pub grow : (e : Effect X) → Fit e → Grows (core_of e).looked e e
   grow e fit = (longer_refl (core_of e).looked, stays_refl e, fit)
 
-  grow_if : (looked : List (List ℕ)) (b : Bool) (e e' f f' : Effect X) → Grows looked e f → Grows looked e' f' → Grows looked (if b then e else e') (if b then f else f')
+  pub grow_if : (looked : List (List ℕ)) (b : Bool) (e e' f f' : Effect X) → Grows looked e f → Grows looked e' f' → Grows looked (if b then e else e') (if b then f else f')
   grow_if looked true e e' f f' h h' = h
   grow_if looked false e e' f f' h h' = h'
 
   abbrev pub Further : Type 0
   Further = Core → Effect X
 
-  grow_expanded : (c : Core) (l : Line) (g h : List Tok → Effect X) → ((ts : List Tok) → Grows c.looked (g ts) (h ts)) →
+  pub grow_expanded : (c : Core) (l : Line) (g h : List Tok → Effect X) → ((ts : List Tok) → Grows c.looked (g ts) (h ts)) →
       (answer : Expanded) → Grows c.looked (on_expanded c l g answer) (on_expanded c l h answer)
   grow_expanded c l g h each (Gives.Done toks counter) = each toks
   grow_expanded c l g h each Gives.Bad = grow (stop FaultIs.ExpansionFault c l) tt
   grow_expanded c l g h each Gives.TooLong = grow (stop FaultIs.ExpansionTooLong c l) tt
   grow_expanded c l g h each Gives.Counter = grow (stop FaultIs.CounterUsed c l) tt
 
-  grow_replaced : (mode : Mode) (c : Core) (l : Line) (ts : List Tok) (g h : List Tok → Effect X) → ((ts : List Tok) → Grows c.looked (g ts) (h ts)) →
+  pub grow_replaced : (mode : Mode) (c : Core) (l : Line) (ts : List Tok) (g h : List Tok → Effect X) → ((ts : List Tok) → Grows c.looked (g ts) (h ts)) →
       Grows c.looked (with_replaced mode c l ts g) (with_replaced mode c l ts h)
   grow_replaced mode c l ts g h each = grow_expanded c l g h each (expand c.macros.defs c.site mode ts)
 
@@ -167,13 +169,13 @@ module _ (X : Type 0) (more : FileMap X) where
   found_fits p (Some Big) h f l k = tt
   found_fits p (Some NoMemory) h f l k = tt
 
-  find_fits : (paths : List (List ℕ)) → FoundFits (find more paths) (looked_at more paths)
+  pub find_fits : (paths : List (List ℕ)) → FoundFits (find more paths) (looked_at more paths)
   unfolding find looked_at
   find_fits [] = tt
   find_fits (p ∷ ps) = found_fits p (more p) refl (find more ps) (looked_at more ps) (find_fits ps)
 
   module _ (files : FileMap X) (extends : Extends X files more) where
-    find_grows : (paths : List (List ℕ)) → FoundGrows (find files paths) (find more paths) (looked_at files paths) (looked_at more paths)
+    pub find_grows : (paths : List (List ℕ)) → FoundGrows (find files paths) (find more paths) (looked_at files paths) (looked_at more paths)
     unfolding find looked_at
     find_grows [] = (refl, refl)
     find_grows (p ∷ ps) = found_step p (files p) (more p) (extends p) (find files ps) (find more ps) (looked_at files ps) (looked_at more ps) (find_grows ps)
@@ -184,7 +186,7 @@ module _ (X : Type 0) (more : FileMap X) where
     abbrev pub PresentGrows : (List ℕ → X → Core → Effect X) → (List ℕ → X → Core → Effect X) → Type 0
     PresentGrows p q = (path : List ℕ) (x : X) (c : Core) → Grows c.looked (p path x c) (q path x c)
 
-    on_found_longer : (place : Place) (c : Core) (a b : Core → Effect X) (p q : List ℕ → X → Core → Effect X) → AbsentGrows a b → PresentGrows p q →
+    pub on_found_longer : (place : Place) (c : Core) (a b : Core → Effect X) (p q : List ℕ → X → Core → Effect X) → AbsentGrows a b → PresentGrows p q →
         (g : Found X) → Longer c.looked (core_of (on_found place c b q g)).looked
     on_found_longer place c a b p q k m Nowhere = (k c).0
     on_found_longer place c a b p q k m (Unread path) = longer_refl c.looked
@@ -226,7 +228,7 @@ module _ (X : Type 0) (more : FileMap X) where
         (subst (λ z. GoesOn c.looked (on_found place (after_looks c l) a p (At path content)) (on_found place (after_looks c z) b q (At path content))) h.1
         (goes_on_later c l (on_found place (after_looks c l) a p (At path content)) (on_found place (after_looks c l) b q (At path content)) (on_found_same place (after_looks c l) a b p q k n (At path content))))
 
-    on_found_fits : (place : Place) (c : Core) (a b : Core → Effect X) (p q : List ℕ → X → Core → Effect X) → AbsentGrows a b → PresentGrows p q →
+    pub on_found_fits : (place : Place) (c : Core) (a b : Core → Effect X) (p q : List ℕ → X → Core → Effect X) → AbsentGrows a b → PresentGrows p q →
         (m : List (List ℕ)) (g : Found X) → FoundFits g m → Fit (on_found place (after_looks c m) b q g)
     on_found_fits place c a b p q k n m Nowhere h = (k (after_looks c m)).2
     on_found_fits place c a b p q k n m (Unread path) h =
@@ -243,18 +245,20 @@ module _ (X : Type 0) (more : FileMap X) where
         let h = on_found_grows place c a b p q k m (looked_at files paths) (looked_at more paths) (find files paths) (find more paths) (find_grows paths) in
         (h.0, h.1, on_found_fits place c a b p q k m (looked_at more paths) (find more paths) (find_fits paths))
 
-    pub grow_include : (place : Place) (paths : List (List ℕ)) (c : Core) → Grows c.looked (include files place paths c) (include more place paths c)
-    grow_include place paths c =
-        grow_with_found place paths c (stop_at FaultIs.IncludeNotFound place) (stop_at FaultIs.IncludeNotFound place) (unless_once place) (unless_once place)
-        (λ c. grow (stop_at FaultIs.IncludeNotFound place c) tt) (λ path x c. grow_if c.looked (c.once path) (Now c) (Enters place path x c) (Now c) (Enters place path x c) (grow (Now c) tt) (grow (Enters place path x c) tt))
+    pub grow_include : (place : Place) (paths : List (List ℕ)) (places : List ℕ → Option ℕ) (c : Core) →
+        Grows c.looked (include files place paths places c) (include more place paths places c)
+    grow_include place paths places c =
+        grow_with_found place paths c (stop_at FaultIs.IncludeNotFound place) (stop_at FaultIs.IncludeNotFound place) (unless_once place places) (unless_once place places)
+        (λ c. grow (stop_at FaultIs.IncludeNotFound place c) tt) (λ path x c. grow_if c.looked (c.once path) (Now c) (Enters place path (places path) x c) (Now c) (Enters place path (places path) x c)
+        (grow (Now c) tt) (grow (Enters place path (places path) x c) tt))
 
     module _ (setup : Setup) where
-      grow_has_values : (l : Line) (ts : List Term) (c : Core) (g h : List Bool → Core → Effect X) → ((bs : List Bool) (c : Core) → Grows c.looked (g bs c) (h bs c)) →
+      pub grow_has_values : (l : Line) (ts : List Term) (c : Core) (g h : List Bool → Core → Effect X) → ((bs : List Bool) (c : Core) → Grows c.looked (g bs c) (h bs c)) →
           Grows c.looked (with_has_values files setup l ts c g) (with_has_values more setup l ts c h)
       grow_has_values l [] c g h each = each [] c
       grow_has_values l (Plain t ∷ ts) c g h each = grow_has_values l ts c g h each
-      grow_has_values l (Has form name ∷ ts) c g h each =
-          grow_with_found (place_of c l) (searched setup (record { form = form; name = name; after = [] }) (folder c.path)) c
+      grow_has_values l (Has next form name ∷ ts) c g h each =
+          grow_with_found (place_of c l) (searched setup (record { form = search_form next c.chain_place form; name = name; after = [] }) (folder c.path)) c
           (λ c. with_has_values files setup l ts c (λ has. g (false ∷ has))) (λ c. with_has_values more setup l ts c (λ has. h (false ∷ has)))
           (λ path x c. with_has_values files setup l ts c (λ has. g (true ∷ has))) (λ path x c. with_has_values more setup l ts c (λ has. h (true ∷ has)))
           (λ c. grow_has_values l ts c (λ has. g (false ∷ has)) (λ has. h (false ∷ has)) (λ bs c. each (false ∷ bs) c))
@@ -263,17 +267,17 @@ module _ (X : Type 0) (more : FileMap X) where
       abbrev pub FurtherGrows : (Bool → Core → Effect X) → (Bool → Core → Effect X) → Type 0
       FurtherGrows g h = (b : Bool) (c : Core) → Grows c.looked (g b c) (h b c)
 
-      grow_on_value : (l : Line) (g h : Bool → Core → Effect X) → FurtherGrows g h → (v : Result CondValue CondFault) (c : Core) → Grows c.looked (on_value l g v c) (on_value l h v c)
+      pub grow_on_value : (l : Line) (g h : Bool → Core → Effect X) → FurtherGrows g h → (v : Result CondValue CondFault) (c : Core) → Grows c.looked (on_value l g v c) (on_value l h v c)
       grow_on_value l g h each (Ok v) c = each (is_nonzero v) c
       grow_on_value l g h each (Err x) c = grow (on_value l g (Err x) c) tt
 
-      grow_on_terms : (c : Core) (l : Line) (toks : List Tok) (g h : Bool → Core → Effect X) → FurtherGrows g h →
+      pub grow_on_terms : (c : Core) (l : Line) (toks : List Tok) (g h : Bool → Core → Effect X) → FurtherGrows g h →
           (ts : Option (List Term)) → Grows c.looked (on_terms files setup c l toks g ts) (on_terms more setup c l toks h ts)
       grow_on_terms c l toks g h each None = grow (stop FaultIs.BadCondition c l) tt
       grow_on_terms c l toks g h each (Some ts) =
           grow_has_values l ts c (λ has. on_value l g (value toks has)) (λ has. on_value l h (value toks has)) (λ has c. grow_on_value l g h each (value toks has) c)
 
-      grow_condition : (c : Core) (l : Line) (toks : List Tok) (g h : Bool → Core → Effect X) → FurtherGrows g h →
+      pub grow_condition : (c : Core) (l : Line) (toks : List Tok) (g h : Bool → Core → Effect X) → FurtherGrows g h →
           Grows c.looked (with_condition files setup c l toks g) (with_condition more setup c l toks h)
       grow_condition c l toks g h each =
           grow_replaced ModeIs.Condition c l toks (λ ts. on_terms files setup c l ts g (terms ts)) (λ ts. on_terms more setup c l ts h (terms ts))
@@ -294,12 +298,31 @@ module _ (X : Type 0) (more : FileMap X) where
       own_defined c l [] g each = (refl, tt)
       own_defined c l (t ∷ ts) g each = own_if c.looked (is_of Ident t) (g (is_some (c.macros.defs t.text)) c) (stop FaultIs.BadCondition c l) (each (is_some (c.macros.defs t.text)) c) (refl, tt)
 
-      grow_elif : (c : Core) (l : Line) (ts : List Tok) (gs : List Group) → Grows c.looked (elif_line files setup c l ts gs) (elif_line more setup c l ts gs)
-      grow_elif c l ts [] = grow (stop FaultIs.Unbalanced c l) tt
-      grow_elif c l ts (g ∷ gs) =
+      grow_group : (c : Core) (l : Line) (p q : (Bool → Core → Effect X) → Effect X) →
+          ((g h : Bool → Core → Effect X) → FurtherGrows g h → Grows c.looked (p g) (q h)) → (gs : List Group) → Grows c.looked (next_group c l p gs) (next_group c l q gs)
+      grow_group c l p q each [] = grow (stop FaultIs.Unbalanced c l) tt
+      grow_group c l p q each (g ∷ gs) =
           grow_if c.looked g.past_else _ _ _ _ (grow (stop FaultIs.Unbalanced c l) tt) (grow_if c.looked g.taken _ _ _ _ (grow (with_group (record g { live = false }) gs c) tt)
-          (grow_condition c l ts (λ yields. with_group (record g { live = yields; taken = yields }) gs) (λ yields. with_group (record g { live = yields; taken = yields }) gs)
+          (each (λ yields. with_group (record g { live = yields; taken = yields }) gs) (λ yields. with_group (record g { live = yields; taken = yields }) gs)
           (λ b d. grow (with_group (record g { live = b; taken = b }) gs d) tt)))
+
+      grow_elif : (c : Core) (l : Line) (ts : List Tok) (gs : List Group) → Grows c.looked (elif_line files setup c l ts gs) (elif_line more setup c l ts gs)
+      grow_elif c l ts gs = grow_group c l (with_condition files setup c l ts) (with_condition more setup c l ts) (grow_condition c l ts) gs
+
+      own_group : (c : Core) (l : Line) (p : (Bool → Core → Effect X) → Effect X) →
+          ((g : Bool → Core → Effect X) → ((b : Bool) (c : Core) → Own c.looked (g b c)) → Own c.looked (p g)) → (gs : List Group) → Own c.looked (next_group c l p gs)
+      own_group c l p each [] = (refl, tt)
+      own_group c l p each (g ∷ gs) =
+          own_if c.looked g.past_else _ _ (refl, tt) (own_if c.looked g.taken _ _ (refl, tt)
+          (each (λ yields. with_group (record g { live = yields; taken = yields }) gs) (λ b d. (refl, tt))))
+
+      own_elifdef : (c : Core) (l : Line) (ts : List Tok) (gs : List Group) → Own c.looked (elifdef_line c l ts gs)
+      own_elifdef c l ts gs = own_group c l (with_defined c l ts) (own_defined c l ts) gs
+
+      own_elifndef : (c : Core) (l : Line) (ts : List Tok) (gs : List Group) → Own c.looked (elifndef_line c l ts gs)
+      own_elifndef c l ts gs =
+          own_group c l (λ further. with_defined c l ts (λ yields. further (not yields)))
+          (λ g each. own_defined c l ts (λ yields. g (not yields)) (λ b d. each (not b) d)) gs
 
       own_else : (c : Core) (l : Line) (gs : List Group) → Own c.looked (else_line c l gs)
       own_else c l [] = (refl, tt)
@@ -309,14 +332,17 @@ module _ (X : Type 0) (more : FileMap X) where
       own_endif c l [] = (refl, tt)
       own_endif c l (g ∷ gs) = (refl, tt)
 
-      grow_included : (c : Core) (l : Line) (n : Option Named) → Grows c.looked (include_named files setup c l n) (include_named more setup c l n)
-      grow_included c l None = grow (stop FaultIs.IncludeSyntax c l) tt
-      grow_included c l (Some n) = grow_include (place_of c l) (searched setup n (folder c.path)) c
+      grow_included_by : (c : Core) (l : Line) (n : Named) → Grows c.looked (include_by files setup c l n) (include_by more setup c l n)
+      grow_included_by c l n = grow_include (place_of c l) (searched setup n (folder c.path)) (place_searched setup n (folder c.path)) c
 
-      grow_include_line : (c : Core) (l : Line) (ts : List Tok) → Grows c.looked (include_line files setup c l ts) (include_line more setup c l ts)
-      grow_include_line c l [] = grow_replaced ModeIs.Line c l [] _ _ (λ toks. grow_included c l (option_and_then nonempty (name_of toks)))
-      grow_include_line c l (t ∷ ts) = grow_if c.looked (is_of Header t) _ _ _ _ (grow_included c l (nonempty (header t ts)))
-          (grow_replaced ModeIs.Line c l (t ∷ ts) _ _ (λ toks. grow_included c l (option_and_then nonempty (name_of toks))))
+      grow_included : (next : Bool) (c : Core) (l : Line) (n : Option Named) → Grows c.looked (include_named next files setup c l n) (include_named next more setup c l n)
+      grow_included next c l None = grow (stop FaultIs.IncludeSyntax c l) tt
+      grow_included next c l (Some n) = grow_included_by c l (record n { form = search_form next c.chain_place n.form })
+
+      grow_include_line : (next : Bool) (c : Core) (l : Line) (ts : List Tok) → Grows c.looked (include_line next files setup c l ts) (include_line next more setup c l ts)
+      grow_include_line next c l [] = grow_replaced ModeIs.Line c l [] _ _ (λ toks. grow_included next c l (option_and_then nonempty (name_of toks)))
+      grow_include_line next c l (t ∷ ts) = grow_if c.looked (is_of Header t) _ _ _ _ (grow_included next c l (nonempty (header t ts)))
+          (grow_replaced ModeIs.Line c l (t ∷ ts) _ _ (λ toks. grow_included next c l (option_and_then nonempty (name_of toks))))
 
       own_define : (c : Core) (l : Line) (found : Option (List ℕ × Def)) → Own c.looked (defined c l found)
       own_define c l None = (refl, tt)
@@ -344,7 +370,8 @@ module _ (X : Type 0) (more : FileMap X) where
       grow_plain : (c : Core) (l : Line) (ts : List Tok) (d : Directive) → Grows c.looked (plain_line files setup c l ts d) (plain_line more setup c l ts d)
       grow_plain c l ts Define = grow_own c.looked (defined c l (read_define ts)) (own_define c l (read_define ts))
       grow_plain c l ts Undef = grow_own c.looked (undef_line c l ts) (own_undef c l ts)
-      grow_plain c l ts Include = grow_include_line c l ts
+      grow_plain c l ts Include = grow_include_line false c l ts
+      grow_plain c l ts IncludeNext = grow_include_line true c l ts
       grow_plain c l ts Renumber = grow_replaced ModeIs.Line c l ts (line_set c l) (line_set c l) (λ toks. grow_own c.looked (line_set c l toks) (own_line_set c l toks))
       grow_plain c l ts Error = grow (stop FaultIs.ErrorDirective c l) tt
       grow_plain c l ts Pragma = grow_own c.looked (pragma_line c ts) (own_pragma c ts)
@@ -353,6 +380,8 @@ module _ (X : Type 0) (more : FileMap X) where
       grow_plain c l ts Ifdef = grow (Now c) tt
       grow_plain c l ts Ifndef = grow (Now c) tt
       grow_plain c l ts Elif = grow (Now c) tt
+      grow_plain c l ts Elifdef = grow (Now c) tt
+      grow_plain c l ts Elifndef = grow (Now c) tt
       grow_plain c l ts Else = grow (Now c) tt
       grow_plain c l ts Endif = grow (Now c) tt
       grow_plain c l ts Nothing = grow (Now c) tt
@@ -366,11 +395,14 @@ module _ (X : Type 0) (more : FileMap X) where
       grow_hash c l ts Ifndef = skipped_or c _ _ _ _ (grow (opened_skipped l c) tt)
           (grow_own c.looked (with_defined c l ts (λ yields. opened l (not yields))) (own_defined c l ts (λ yields. opened l (not yields)) (λ b d. (refl, tt))))
       grow_hash c l ts Elif = grow_elif c l ts c.stack
+      grow_hash c l ts Elifdef = grow_own c.looked (elifdef_line c l ts c.stack) (own_elifdef c l ts c.stack)
+      grow_hash c l ts Elifndef = grow_own c.looked (elifndef_line c l ts c.stack) (own_elifndef c l ts c.stack)
       grow_hash c l ts Else = grow_own c.looked (else_line c l c.stack) (own_else c l c.stack)
       grow_hash c l ts Endif = grow_own c.looked (endif_line c l c.stack) (own_endif c l c.stack)
       grow_hash c l ts Define = skipped_or c _ _ _ _ (grow (Now c) tt) (grow_plain c l ts Define)
       grow_hash c l ts Undef = skipped_or c _ _ _ _ (grow (Now c) tt) (grow_plain c l ts Undef)
       grow_hash c l ts Include = skipped_or c _ _ _ _ (grow (Now c) tt) (grow_plain c l ts Include)
+      grow_hash c l ts IncludeNext = skipped_or c _ _ _ _ (grow (Now c) tt) (grow_plain c l ts IncludeNext)
       grow_hash c l ts Renumber = skipped_or c _ _ _ _ (grow (Now c) tt) (grow_plain c l ts Renumber)
       grow_hash c l ts Error = skipped_or c _ _ _ _ (grow (Now c) tt) (grow_plain c l ts Error)
       grow_hash c l ts Pragma = skipped_or c _ _ _ _ (grow (Now c) tt) (grow_plain c l ts Pragma)
@@ -390,7 +422,7 @@ module _ (X : Type 0) (more : FileMap X) where
 
       grow_effect_of : (c : Core) (l : Line) (ts : List Tok) → Grows c.looked (effect_of files setup c l ts) (effect_of more setup c l ts)
       grow_effect_of c l [] = grow (Now c) tt
-      grow_effect_of c l (t ∷ ts) = grow_if c.looked (is_one_of ("#" ∷ "%:" ∷ []) t.text) _ _ _ _ (grow_hash c l (drop 1 ts) (directive_of ts))
+      grow_effect_of c l (t ∷ ts) = grow_if c.looked (is_one_of ("#" ∷ "%:" ∷ []) t.text) _ _ _ _ (grow_hash c l (drop 1 ts) (directive_of setup.command.dialect ts))
           (skipped_or c _ _ _ _ (grow (Now c) tt) (grow_module c l (t ∷ ts)))
 
       -- the effect of a line with more files
@@ -421,7 +453,7 @@ lines_of_append [] qs = refl
 lines_of_append (Run path toks ∷ ps) qs = lines_of_append ps qs
 lines_of_append (Sent l ∷ ps) qs = ap (l ∷◌) (lines_of_append ps qs)
 
-sent_earlier : (looked more : List (List ℕ)) → Longer looked more → (ls : List ModuleLine) → SentAfter more ls → SentAfter looked ls
+pub sent_earlier : (looked more : List (List ℕ)) → Longer looked more → (ls : List ModuleLine) → SentAfter more ls → SentAfter looked ls
 sent_earlier looked more h [] k = tt
 sent_earlier looked more h (l ∷ ls) k = (longer_trans looked more l.looked h k.0, sent_earlier looked more h ls k.1)
 
@@ -432,10 +464,10 @@ sent_append looked (l ∷ ls) ms h k = (h.0, sent_append looked ls ms h.1 k)
 pub later_refl : (looked : List (List ℕ)) (a : List Piece) → Later looked a a
 later_refl looked a = ([], sym (append-nil a), tt)
 
-later_earlier : (looked more : List (List ℕ)) (a b : List Piece) → Longer looked more → Later more a b → Later looked a b
+pub later_earlier : (looked more : List (List ℕ)) (a b : List Piece) → Longer looked more → Later more a b → Later looked a b
 later_earlier looked more a b h k = (k.0, k.1, sent_earlier looked more h (module_lines k.0) k.2)
 
-later_trans : (looked : List (List ℕ)) (a b c : List Piece) → Later looked a b → Later looked b c → Later looked a c
+pub later_trans : (looked : List (List ℕ)) (a b c : List Piece) → Later looked a b → Later looked b c → Later looked a c
 later_trans looked a b c h k = (
   h.0 ++ k.0,
   k.1 ∙ ap (λ z. z ++ k.0) h.1 ∙ append_assoc a h.0 k.0,
@@ -487,19 +519,19 @@ run_later looked s Gives.Bad = (Run s.core.path s.run ∷ [], refl, tt)
 run_later looked s Gives.TooLong = (Run s.core.path s.run ∷ [], refl, tt)
 run_later looked s Gives.Counter = (Run s.core.path s.run ∷ [], refl, tt)
 
-end_core : (s : State) → (end_run s).core ≡ s.core
+pub end_core : (s : State) → (end_run s).core ≡ s.core
 unfolding end_run
 end_core s = run_keeps_core s (expand s.core.macros.defs s.core.site (ModeIs.Text s.counter) s.run)
 
-end_later : (looked : List (List ℕ)) (s : State) → Later looked s.stream (end_run s).stream
+pub end_later : (looked : List (List ℕ)) (s : State) → Later looked s.stream (end_run s).stream
 unfolding end_run
 end_later looked s = run_later looked s (expand s.core.macros.defs s.core.site (ModeIs.Text s.counter) s.run)
 
-then_onward : (h : State → Reached) → ((s : State) → Onward s.core.looked s.stream (h s)) → (f : Reached) → Onward (looked_in f) (stream_in f) (then_go h f)
+pub then_onward : (h : State → Reached) → ((s : State) → Onward s.core.looked s.stream (h s)) → (f : Reached) → Onward (looked_in f) (stream_in f) (then_go h f)
 then_onward h each (Going s) = each s
 then_onward h each (Stopped a) = (longer_refl a.looked, later_refl a.looked a.stream)
 
-onward_trans : (looked : List (List ℕ)) (stream : List Piece) (f g : Reached) → Onward looked stream f → Onward (looked_in f) (stream_in f) g → Onward looked stream g
+pub onward_trans : (looked : List (List ℕ)) (stream : List Piece) (f g : Reached) → Onward looked stream f → Onward (looked_in f) (stream_in f) g → Onward looked stream g
 onward_trans looked stream f g h k = (
   longer_trans looked (looked_in f) (looked_in g) h.0 k.0,
   later_trans looked stream (stream_in f) (stream_in g) h.1 (later_earlier looked (looked_in f) (stream_in f) (stream_in g) h.0 k.1),
@@ -526,17 +558,18 @@ then_grows more looked stream g h each (Stopped a) f k =
 
 module _ (X : Type 0) (more : FileMap X) (e f : Enter X) where
   abbrev pub EnterGrows : Type 0
-  EnterGrows = (place : Place) (path : List ℕ) (x : X) (s : State) → RunGrows more s.core.looked s.stream (e place path x s) (f place path x s)
+  EnterGrows = (place : Place) (path : List ℕ) (chain_place : Option ℕ) (x : X) (s : State) →
+      RunGrows more s.core.looked s.stream (e place path chain_place x s) (f place path chain_place x s)
 
-  done_onward : EnterGrows → (s : State) (b : Effect X) → Fit X more b → Onward (core_of b).looked s.stream (done f s b)
+  pub done_onward : EnterGrows → (s : State) (b : Effect X) → Fit X more b → Onward (core_of b).looked s.stream (done f s b)
   done_onward each s (Now c) fit = (longer_refl c.looked, later_refl c.looked s.stream)
-  done_onward each s (Enters place path x c) fit = let h = each place path x (record s { core = c }) in (h.0, h.1)
+  done_onward each s (Enters place path chain_place x c) fit = let h = each place path chain_place x (record s { core = c }) in (h.0, h.1)
   done_onward each s (Sends l c) fit = (longer_refl c.looked, (Sent l ∷ [], refl, (subst (λ z. Longer c.looked z) (sym fit) (longer_refl c.looked), tt)))
   done_onward each s (Halts cause c) fit = (longer_refl c.looked, later_refl c.looked s.stream)
 
-  done_fits : EnterGrows → (s : State) (b : Effect X) → Fit X more b → RunFits more (done f s b)
+  pub done_fits : EnterGrows → (s : State) (b : Effect X) → Fit X more b → RunFits more (done f s b)
   done_fits each s (Now c) fit = tt
-  done_fits each s (Enters place path x c) fit = (each place path x (record s { core = c })).3
+  done_fits each s (Enters place path chain_place x c) fit = (each place path chain_place x (record s { core = c })).3
   done_fits each s (Sends l c) fit = tt
   done_fits each s (Halts (Faulty x) c) fit = tt
   done_fits each s (Halts OutOfMemory c) fit = tt
@@ -556,9 +589,9 @@ module _ (X : Type 0) (more : FileMap X) (e f : Enter X) where
   pub done_grows : EnterGrows → (looked : List (List ℕ)) (s : State) (a b : Effect X) → Grows X more looked a b → RunGrows more looked s.stream (done e s a) (done f s b)
   done_grows each looked s (Now c) b h =
       subst (λ z. Longer looked (core_of z).looked → Fit X more z → RunGrows more looked s.stream (done e s (Now c)) (done f s z)) h.1 (same_done each s (Now c) refl looked) h.0 h.2
-  done_grows each looked s (Enters place path x c) b h =
-      subst (λ z. Longer looked (core_of z).looked → Fit X more z → RunGrows more looked s.stream (done e s (Enters place path x c)) (done f s z)) h.1
-      (same_done each s (Enters place path x c) (each place path x (record s { core = c })).2 looked) h.0 h.2
+  done_grows each looked s (Enters place path chain_place x c) b h =
+      subst (λ z. Longer looked (core_of z).looked → Fit X more z → RunGrows more looked s.stream (done e s (Enters place path chain_place x c)) (done f s z)) h.1
+      (same_done each s (Enters place path chain_place x c) (each place path chain_place x (record s { core = c })).2 looked) h.0 h.2
   done_grows each looked s (Sends l c) b h =
       subst (λ z. Longer looked (core_of z).looked → Fit X more z → RunGrows more looked s.stream (done e s (Sends l c)) (done f s z)) h.1 (same_done each s (Sends l c) refl looked) h.0 h.2
   done_grows each looked s (Halts (Faulty x) c) b h =
@@ -580,7 +613,7 @@ module _ (X : Type 0) (more : FileMap X) (e f : Enter X) where
         (h.0, later_trans s.core.looked s.stream (end_run s).stream (stream_in (done f (end_run s) (effect more setup s.core l))) (end_later s.core.looked s) h.1, h.2, h.3)
         (run_if more s.core.looked s.stream (is_skipped s.core.stack) (Going s) (Going (joined s l)) (Going s) (Going (joined s l)) (run_stays more s) (run_stays more (joined s l)))
 
-    lines_grow : (ls : List Line) (s : State) → RunGrows more s.core.looked s.stream (full_lines e files setup ls s) (full_lines f more setup ls s)
+    pub lines_grow : (ls : List Line) (s : State) → RunGrows more s.core.looked s.stream (full_lines e files setup ls s) (full_lines f more setup ls s)
     lines_grow [] s = run_stays more s
     lines_grow (l ∷ ls) s =
         then_grows more s.core.looked s.stream (full_lines e files setup ls) (full_lines f more setup ls) (lines_grow ls) (full_line e files setup s l) (full_line f more setup s l) (line_grows s l)
@@ -589,7 +622,7 @@ file_end_grows : {X : Type 0} (more : FileMap X) (c : Core) (s : State) (gs : Li
 file_end_grows more c s [] = (longer_refl s.core.looked, later_refl s.core.looked s.stream, refl, tt)
 file_end_grows more c s (g ∷ gs) = (longer_refl s.core.looked, later_refl s.core.looked s.stream, refl, tt)
 
-file_ends : {X : Type 0} (more : FileMap X) (c : Core) (s : State) →
+pub file_ends : {X : Type 0} (more : FileMap X) (c : Core) (s : State) →
     RunGrows more s.core.looked s.stream (at_file_end c (end_run s) s.core.stack) (at_file_end c (end_run s) s.core.stack)
 file_ends more c s =
     let h = subst (λ d. RunGrows more d.looked (end_run s).stream (at_file_end c (end_run s) s.core.stack) (at_file_end c (end_run s) s.core.stack)) (end_core s)
@@ -599,12 +632,12 @@ file_ends more c s =
 pub enter_grows : (X : Type 0) (more : FileMap X) (view : View X) (files : FileMap X) → Extends X files more → (setup : Setup) (n : ℕ) →
     EnterGrows X more (enter view files setup n) (enter view more setup n)
 unfolding enter full_file
-enter_grows X more view files extends setup zero place path x s = (longer_refl s.core.looked, later_refl s.core.looked s.stream, refl, tt)
-enter_grows X more view files extends setup (suc n) place path x s =
+enter_grows X more view files extends setup zero place path chain_place x s = (longer_refl s.core.looked, later_refl s.core.looked s.stream, refl, tt)
+enter_grows X more view files extends setup (suc n) place path chain_place x s =
     run_if more s.core.looked s.stream (nat_le entered_limit s.core.entered) _ _ _ _ (longer_refl s.core.looked, later_refl s.core.looked s.stream, refl, tt)
     (then_grows more s.core.looked s.stream (λ last. at_file_end s.core (end_run last) last.core.stack) (λ last. at_file_end s.core (end_run last) last.core.stack)
     (λ last. file_ends more s.core last)
-    (full_lines (enter view files setup n) files setup (view x) (record s { core = at_file_start path s.core }))
-    (full_lines (enter view more setup n) more setup (view x) (record s { core = at_file_start path s.core }))
+    (full_lines (enter view files setup n) files setup (view x) (record s { core = at_file_start path chain_place s.core }))
+    (full_lines (enter view more setup n) more setup (view x) (record s { core = at_file_start path chain_place s.core }))
     (lines_grow X more (enter view files setup n) (enter view more setup n) files extends setup (enter_grows X more view files extends setup n) (view x)
-    (record s { core = at_file_start path s.core })))
+    (record s { core = at_file_start path chain_place s.core })))

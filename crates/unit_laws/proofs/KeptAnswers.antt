@@ -19,7 +19,8 @@ use Rattle.scan_model.specs.State.{Setup, State, Reached, Going, Stopped}
 use Rattle.scan_model.specs.Stream.{Piece, read_stream, take_lines}
 use Rattle.scan_model.specs.Effect.{halted, done, fault, stop_at, Enters, Enter}
 use Rattle.scan_model.specs.Conditionals.{is_skipped}
-use Rattle.scan_model.specs.Search.{with_found, searched}
+use Rattle.scan_model.specs.Search.{with_found, searched, place_searched}
+use Rattle.scan_model.specs.HeaderName.{Named}
 use Rattle.scan_model.specs.Includes.{include}
 use Rattle.scan_model.specs.WholeFile.{View, full_line, joined, enter}
 use Rattle.scan_model.specs.WholeUnit.{first_state, command_place, first_file, predefines, setting_text, set_first, set_all, force, force_all, full}
@@ -33,24 +34,24 @@ module _ (X Y : Type 0) (view : View X) (other : View Y) (files : FileMap X) (ot
   first_alike : (missing : FaultKind) (path : List ℕ) (s r : State) → Similar s r → Alike (first_file view files setup missing path s) (first_file other others setup missing path r)
   first_alike missing path s r k = let place : Place = record { path = path; line = 0 } in
       done_alike X Y view other (enter view files setup 201) (enter other others setup 201) (enter_alike setup 201 X Y view other files others same) s r k
-      (with_found files place (path ∷ []) s.core (stop_at missing place) (Enters place)) (with_found others place (path ∷ []) r.core (stop_at missing place) (Enters place))
-      (subst (λ c. SameEffect X Y view other (with_found files place (path ∷ []) s.core (stop_at missing place) (Enters place)) (with_found others place (path ∷ []) c (stop_at missing place) (Enters place))) k.0
-      (same_with_found X Y view other files others same place (path ∷ []) s.core (stop_at missing place) (stop_at missing place) (Enters place) (Enters place)
-      (λ c. (refl, refl)) (λ path x y c h. (refl, refl, h, refl))))
+      (with_found files place (path ∷ []) s.core (stop_at missing place) (λ path. Enters place path None)) (with_found others place (path ∷ []) r.core (stop_at missing place) (λ path. Enters place path None))
+      (subst (λ c. SameEffect X Y view other (with_found files place (path ∷ []) s.core (stop_at missing place) (λ path. Enters place path None)) (with_found others place (path ∷ []) c (stop_at missing place) (λ path. Enters place path None))) k.0
+      (same_with_found X Y view other files others same place (path ∷ []) s.core (stop_at missing place) (stop_at missing place) (λ path. Enters place path None) (λ path. Enters place path None)
+      (λ c. (refl, refl)) (λ path x y c h. (refl, refl, refl, h, refl))))
 
   predefines_alike : (path : Option (List ℕ)) (s r : State) → Similar s r → Alike (predefines view files setup path s) (predefines other others setup path r)
   predefines_alike None s r k = k
   predefines_alike (Some path) s r k = first_alike FaultIs.IncludeNotFound path s r k
 
   abbrev stay : {Z : Type 0} → Enter Z
-  stay place path text s = Going s
+  stay place path chain_place text s = Going s
 
   text_both : (l : Line) (s r : State) → Similar s r → Alike (if is_skipped s.core.stack then Going s else Going (joined s l)) (if is_skipped r.core.stack then Going r else Going (joined r l))
   text_both l s r k = subst (λ c. Alike (if is_skipped s.core.stack then Going s else Going (joined s l)) (if is_skipped c.stack then Going r else Going (joined r l))) k.0
       (alike_if (is_skipped s.core.stack) (Going s) (Going (joined s l)) (Going r) (Going (joined r l)) k k)
 
   line_alike : (l : Line) (b : Bool) → is_directive l ≡ b → (s r : State) → Similar s r → Alike (full_line stay files setup s l) (full_line stay others setup r l)
-  line_alike l true h s r k = directive_alike X Y view other stay stay files others same setup (λ place path x y s r h k. k) l h s r k
+  line_alike l true h s r k = directive_alike X Y view other stay stay files others same setup (λ place path chain_place x y s r h k. k) l h s r k
   line_alike l false h s r k =
       subst (λ q. Alike q (full_line stay others setup r l)) (sym (line_of_text X stay files setup s l h))
       (subst (λ q. Alike (if is_skipped s.core.stack then Going s else Going (joined s l)) q) (sym (line_of_text Y stay others setup r l h)) (text_both l s r k))
@@ -68,14 +69,16 @@ module _ (X Y : Type 0) (view : View X) (other : View Y) (files : FileMap X) (ot
 
   force_alike : (number : ℕ) (name : List ℕ) (s r : State) → Similar s r → Alike (force view files setup number name s) (force other others setup number name r)
   force_alike number name s r k =
-      let paths = searched setup (record { form = Quoted; name = name; after = [] }) setup.command.directory in
+      let named : Named = record { form = Quoted; name = name; after = [] } in
+      let paths = searched setup named setup.command.directory in
+      let places = place_searched setup named setup.command.directory in
       let place = command_place number in
-      alike_if (length name == 0) (halted (fault FaultIs.IncludeSyntax place) s.core.looked s) (done (enter view files setup 200) s (include files place paths s.core))
-      (halted (fault FaultIs.IncludeSyntax place) r.core.looked r) (done (enter other others setup 200) r (include others place paths r.core))
+      alike_if (length name == 0) (halted (fault FaultIs.IncludeSyntax place) s.core.looked s) (done (enter view files setup 200) s (include files place paths places s.core))
+      (halted (fault FaultIs.IncludeSyntax place) r.core.looked r) (done (enter other others setup 200) r (include others place paths places r.core))
       (refl, ap (λ c. c.looked) k.0, k.1)
       (done_alike X Y view other (enter view files setup 200) (enter other others setup 200) (enter_alike setup 200 X Y view other files others same) s r k
-      (include files place paths s.core) (include others place paths r.core)
-      (subst (λ c. SameEffect X Y view other (include files place paths s.core) (include others place paths c)) k.0 (same_include X Y view other files others same place paths s.core)))
+      (include files place paths places s.core) (include others place paths places r.core)
+      (subst (λ c. SameEffect X Y view other (include files place paths places s.core) (include others place paths places c)) k.0 (same_include X Y view other files others same place paths places s.core)))
 
   force_all_alike : (number : ℕ) (names : List (List ℕ)) (s r : State) → Similar s r → Alike (force_all view files setup number names s) (force_all other others setup number names r)
   force_all_alike number [] s r k = k
@@ -89,7 +92,7 @@ module _ (X Y : Type 0) (view : View X) (other : View Y) (files : FileMap X) (ot
       alike_go _ _ (first_alike FaultIs.MainMissing setup.command.main) _ _
       (alike_go _ _ (force_all_alike (length setup.command.settings + 1) setup.command.forced) _ _
       (alike_go _ _ (set_all_alike 1 setup.command.settings) _ _
-      (predefines_alike setup.settings.predefines first_state first_state (refl, refl))))
+      (predefines_alike setup.settings.predefines (first_state setup.command.dialect) (first_state setup.command.dialect) (refl, refl))))
 
 same_read : (command : Command) (ps qs : List Piece) → SameSent ps qs → read_stream command ps ≡ read_stream command qs
 unfolding read_stream

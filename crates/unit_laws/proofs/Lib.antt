@@ -4,10 +4,14 @@ pub mod GrowthLemmas
 pub mod GrowingAnswers
 pub mod KnownAnswers
 pub mod StreamLemmas
+pub mod SkipLemmas
+pub mod ChainLemmas
 pub mod Computing
 pub mod UnitForms
 pub mod WorkedUnits
 pub mod WorkedFiles
+pub mod WorkedDialects
+pub mod WorkedChain
 pub mod PlainText
 pub mod Parts
 pub mod PlainMacros

@@ -1,5 +1,5 @@
 -- What a directive does brings no keyword into the macros, and into the stream those of its own line alone.
-use Rattle.std.proofs.Common.{◌≡◌, ℕ, Bool, true, false, not, ◌&&◌, if◌then◌else◌, List, [], ◌∷◌, ◌++◌, drop, refl, ap, Option, Some, None}
+use Rattle.std.proofs.Common.{◌≡◌, ℕ, Bool, true, false, not, ◌&&◌, if◌then◌else◌, List, [], ◌∷◌, ◌++◌, drop, refl, ap, Option, Some, None, codes}
 use Rattle.std.specs.Prelude.{⊤, is_some}
 use Rattle.std.specs.Option.{option_and_then}
 use Rattle.std.specs.List.{AllByRecursion, list_any}
@@ -9,6 +9,8 @@ use Rattle.scan_model.specs.declared.token.Kind.TheVariants.{Ident, Header, Expo
 use Rattle.scan_model.specs.declared.token.Tok.{Tok}
 use Rattle.scan_model.specs.declared.token.Line.{Line}
 use Rattle.scan_model.specs.declared.macros.Def.{Def}
+use Rattle.scan_model.specs.declared.command.Dialect.{Dialect}
+use Rattle.scan_model.specs.declared.command.Dialect.TheVariants.{Cxx20, Cxx23}
 use Rattle.scan_model.specs.declared.expansion.Mode.{Mode}
 use Rattle.scan_model.specs.declared.expansion.Mode.TheVariants as ModeIs
 use Rattle.scan_model.specs.declared.expansion.Expanded.{Expanded}
@@ -19,7 +21,7 @@ use Rattle.scan_model.specs.declared.unit_end.Place.{Place}
 use Rattle.scan_model.specs.declared.unit_end.FaultKind.TheVariants as FaultIs
 use Rattle.scan_model.specs.Spelling.{spells, is_one_of}
 use Rattle.scan_model.specs.TokenTests.{is_of, same, is_word, is_plain_string}
-use Rattle.scan_model.specs.Macros.{Macros, put, built_ins, undef, push, restored, pop}
+use Rattle.scan_model.specs.Macros.{Macros, put, built_ins, cplusplus_23, first_macros, undef, push, restored, pop}
 use Rattle.scan_model.specs.MacroDefinition.{read_define}
 use Rattle.scan_model.specs.Expansion.{expand}
 use Rattle.scan_model.specs.HeaderName.{Named, Term, Plain, Has, terms, name_of, nonempty, header}
@@ -31,10 +33,12 @@ use Rattle.scan_model.specs.State.{Group, Setup, Core}
 use Rattle.scan_model.specs.Stream.{Sent}
 use Rattle.scan_model.specs.Effect.{Effect, Now, Enters, Sends, Halts, place_of, stop, stop_at}
 use Rattle.scan_model.specs.Replacing.{on_expanded, with_replaced}
-use Rattle.scan_model.specs.Search.{on_found, with_found, searched}
-use Rattle.scan_model.specs.Includes.{unless_once, include, include_named, include_line}
-use Rattle.scan_model.specs.Conditionals.{with_has_values, on_value, on_terms, with_condition, with_defined, is_skipped, opened, opened_skipped, with_group, elif_line, else_line, endif_line}
-use Rattle.scan_model.specs.Directives.{Directive, If, Ifdef, Ifndef, Elif, Else, Endif, Define, Undef, Include, Renumber, Error, Pragma, Nothing, Unknown, directive_of, defined, undef_line, numbered, is_line_number, line_set, quoted_name, with_macros, pragma_line, plain_line, hash_line}
+use Rattle.scan_model.specs.Search.{on_found, with_found, searched, place_searched, search_form}
+use Rattle.scan_model.specs.Includes.{unless_once, include, include_by, include_named, include_line}
+use Rattle.scan_model.specs.Conditionals.{with_has_values, on_value, on_terms, with_condition, with_defined, is_skipped, opened, opened_skipped, with_group, next_group, elif_line, elifdef_line, elifndef_line, else_line, endif_line}
+use Rattle.scan_model.specs.declared.directive.Directive.{Directive}
+use Rattle.scan_model.specs.declared.directive.Directive.TheVariants.{If, Ifdef, Ifndef, Elif, Elifdef, Elifndef, Else, Endif, Define, Undef, Include, IncludeNext, Renumber, Error, Pragma, Nothing, Unknown}
+use Rattle.scan_model.specs.Directives.{directive_of, defined, undef_line, numbered, is_line_number, line_set, quoted_name, with_macros, pragma_line, plain_line, hash_line}
 use Rattle.scan_model.specs.KeywordLines.{is_object_like, as_keyword, sent, keyword_line, export_line, module_line}
 use Rattle.scan_model.specs.DirectiveLines.{effect_of, effect}
 use Rattle.unit_laws.specs.Streams.{is_stream_kind, KeywordsInPlace}
@@ -79,9 +83,14 @@ unfolding built_ins
 built_ins_plain = (
   λ name. some_if PlainDef (spells "__FILE__" name) _ _ tt (some_if PlainDef (spells "__LINE__" name) _ _ tt (some_if PlainDef (spells "__DATE__" name) _ _ tt
       (some_if PlainDef (spells "__TIME__" name) _ _ tt (some_if PlainDef (spells "__COUNTER__" name) _ _ tt (some_if PlainDef (spells "__cplusplus" name) _ _ tt
-      (some_if PlainDef (spells "__has_include" name) _ _ tt (some_if PlainDef (spells "__has_cpp_attribute" name) _ None tt tt))))))),
+      (some_if PlainDef (spells "__has_include" name) _ _ tt (some_if PlainDef (spells "__has_include_next" name) _ _ tt
+      (some_if PlainDef (spells "__has_cpp_attribute" name) _ None tt tt)))))))),
   λ name. tt,
 )
+
+pub first_macros_plain : (dialect : Dialect) → PlainMacros (first_macros dialect)
+first_macros_plain Cxx20 = built_ins_plain
+first_macros_plain Cxx23 = (put_plain built_ins.defs (codes "__cplusplus") (Some cplusplus_23) built_ins_plain.0 (refl, tt), built_ins_plain.1)
 
 -- ## Effects
 
@@ -91,7 +100,7 @@ PlainCore c = PlainMacros c.macros
 module _ (X : Type 0) where
   abbrev pub PlainEffect : Effect X → Type 0
   PlainEffect (Now c) = PlainCore c
-  PlainEffect (Enters place path text c) = PlainCore c
+  PlainEffect (Enters place path chain_place text c) = PlainCore c
   PlainEffect (Sends l c) = KeywordsInPlace (Sent l) × PlainCore c
   PlainEffect (Halts cause c) = ⊤
 
@@ -134,24 +143,27 @@ module _ (X : Type 0) where
     with_found_plain place paths c absent present h a p =
         on_found_plain place (record c { looked = c.looked ++ looked_at files paths }) absent present (find files paths) h a p
 
-    pub include_plain : (place : Place) (paths : List (List ℕ)) (c : Core) → PlainCore c → PlainEffect (include files place paths c)
-    include_plain place paths c h =
-        with_found_plain place paths c (stop_at FaultIs.IncludeNotFound place) (unless_once place) h (λ c k. tt)
-        (λ path text c k. effect_if (c.once path) (Now c) (Enters place path text c) k k)
+    pub include_plain : (place : Place) (paths : List (List ℕ)) (places : List ℕ → Option ℕ) (c : Core) → PlainCore c → PlainEffect (include files place paths places c)
+    include_plain place paths places c h =
+        with_found_plain place paths c (stop_at FaultIs.IncludeNotFound place) (unless_once place places) h (λ c k. tt)
+        (λ path text c k. effect_if (c.once path) (Now c) (Enters place path (places path) text c) k k)
 
     module _ (setup : Setup) where
-      named_plain : (c : Core) (l : Line) (n : Option Named) → PlainCore c → PlainEffect (include_named files setup c l n)
-      named_plain c l None h = tt
-      named_plain c l (Some n) h = include_plain (place_of c l) (searched setup n (folder c.path)) c h
+      by_plain : (c : Core) (l : Line) (n : Named) → PlainCore c → PlainEffect (include_by files setup c l n)
+      by_plain c l n h = include_plain (place_of c l) (searched setup n (folder c.path)) (place_searched setup n (folder c.path)) c h
 
-      include_line_plain : (c : Core) (l : Line) (ts : List Tok) → PlainCore c → PlainToks ts → PlainEffect (include_line files setup c l ts)
-      include_line_plain c l [] h k =
-          replaced_plain ModeIs.Line c l [] (λ ts. include_named files setup c l (option_and_then nonempty (name_of ts))) h tt
-          (λ ts p. named_plain c l (option_and_then nonempty (name_of ts)) h)
-      include_line_plain c l (t ∷ ts) h k =
-          effect_if (is_of Header t) (include_named files setup c l (nonempty (header t ts))) _ (named_plain c l (nonempty (header t ts)) h)
-          (replaced_plain ModeIs.Line c l (t ∷ ts) (λ ts. include_named files setup c l (option_and_then nonempty (name_of ts))) h k
-          (λ ts p. named_plain c l (option_and_then nonempty (name_of ts)) h))
+      named_plain : (next : Bool) (c : Core) (l : Line) (n : Option Named) → PlainCore c → PlainEffect (include_named next files setup c l n)
+      named_plain next c l None h = tt
+      named_plain next c l (Some n) h = by_plain c l (record n { form = search_form next c.chain_place n.form }) h
+
+      include_line_plain : (next : Bool) (c : Core) (l : Line) (ts : List Tok) → PlainCore c → PlainToks ts → PlainEffect (include_line next files setup c l ts)
+      include_line_plain next c l [] h k =
+          replaced_plain ModeIs.Line c l [] (λ ts. include_named next files setup c l (option_and_then nonempty (name_of ts))) h tt
+          (λ ts p. named_plain next c l (option_and_then nonempty (name_of ts)) h)
+      include_line_plain next c l (t ∷ ts) h k =
+          effect_if (is_of Header t) (include_named next files setup c l (nonempty (header t ts))) _ (named_plain next c l (nonempty (header t ts)) h)
+          (replaced_plain ModeIs.Line c l (t ∷ ts) (λ ts. include_named next files setup c l (option_and_then nonempty (name_of ts))) h k
+          (λ ts p. named_plain next c l (option_and_then nonempty (name_of ts)) h))
 
       -- ## Conditions
 
@@ -159,8 +171,8 @@ module _ (X : Type 0) where
           ((has : List Bool) (c : Core) → PlainCore c → PlainEffect (further has c)) → PlainEffect (with_has_values files setup l ts c further)
       has_values_plain l [] c further h each = each [] c h
       has_values_plain l (Plain t ∷ ts) c further h each = has_values_plain l ts c further h each
-      has_values_plain l (Has form name ∷ ts) c further h each =
-          with_found_plain (place_of c l) (searched setup (record { form = form; name = name; after = [] }) (folder c.path)) c
+      has_values_plain l (Has next form name ∷ ts) c further h each =
+          with_found_plain (place_of c l) (searched setup (record { form = search_form next c.chain_place form; name = name; after = [] }) (folder c.path)) c
           (λ c. with_has_values files setup l ts c (λ has. further (false ∷ has))) (λ path text c. with_has_values files setup l ts c (λ has. further (true ∷ has))) h
           (λ c k. has_values_plain l ts c (λ has. further (false ∷ has)) k (λ has c p. each (false ∷ has) c p))
           (λ path text c k. has_values_plain l ts c (λ has. further (true ∷ has)) k (λ has c p. each (true ∷ has) c p))
@@ -189,12 +201,24 @@ module _ (X : Type 0) where
       defined_plain c l (t ∷ ts) further each h =
           effect_if (is_of Ident t) (further (is_some (c.macros.defs t.text)) c) (stop FaultIs.BadCondition c l) (each (is_some (c.macros.defs t.text)) c h) tt
 
-      elif_plain : (c : Core) (l : Line) (ts : List Tok) (gs : List Group) → PlainCore c → PlainToks ts → PlainEffect (elif_line files setup c l ts gs)
-      elif_plain c l ts [] h k = tt
-      elif_plain c l ts (g ∷ gs) h k =
+      group_plain : (c : Core) (l : Line) (condition : (Bool → Core → Effect X) → Effect X) → ((further : Bool → Core → Effect X) → FurtherPlain further → PlainEffect (condition further)) →
+          (gs : List Group) → PlainCore c → PlainEffect (next_group c l condition gs)
+      group_plain c l condition each [] h = tt
+      group_plain c l condition each (g ∷ gs) h =
           effect_if g.past_else (stop FaultIs.Unbalanced c l) _ tt
           (effect_if g.taken (with_group (record g { live = false }) gs c) _ h
-          (condition_plain c l ts (λ yields. with_group (record g { live = yields; taken = yields }) gs) (λ b c p. p) h k))
+          (each (λ yields. with_group (record g { live = yields; taken = yields }) gs) (λ b c p. p)))
+
+      elif_plain : (c : Core) (l : Line) (ts : List Tok) (gs : List Group) → PlainCore c → PlainToks ts → PlainEffect (elif_line files setup c l ts gs)
+      elif_plain c l ts gs h k = group_plain c l (with_condition files setup c l ts) (λ further each. condition_plain c l ts further each h k) gs h
+
+      elifdef_plain : (c : Core) (l : Line) (ts : List Tok) (gs : List Group) → PlainCore c → PlainEffect (elifdef_line c l ts gs)
+      elifdef_plain c l ts gs h = group_plain c l (with_defined c l ts) (λ further each. defined_plain c l ts further each h) gs h
+
+      elifndef_plain : (c : Core) (l : Line) (ts : List Tok) (gs : List Group) → PlainCore c → PlainEffect (elifndef_line c l ts gs)
+      elifndef_plain c l ts gs h =
+          group_plain c l (λ further. with_defined c l ts (λ yields. further (not yields)))
+          (λ further each. defined_plain c l ts (λ yields. further (not yields)) (λ b c p. each (not b) c p) h) gs h
 
       else_plain : (c : Core) (l : Line) (gs : List Group) → PlainCore c → PlainEffect (else_line c l gs)
       else_plain c l [] h = tt
@@ -239,7 +263,8 @@ module _ (X : Type 0) where
       plain_line_plain : (c : Core) (l : Line) (ts : List Tok) (d : Directive) → PlainCore c → PlainToks ts → PlainEffect (plain_line files setup c l ts d)
       plain_line_plain c l ts Define h k = define_effect c l (read_define ts) (define_plain ts k) h
       plain_line_plain c l ts Undef h k = undef_plain c l ts h
-      plain_line_plain c l ts Include h k = include_line_plain c l ts h k
+      plain_line_plain c l ts Include h k = include_line_plain false c l ts h k
+      plain_line_plain c l ts IncludeNext h k = include_line_plain true c l ts h k
       plain_line_plain c l ts Renumber h k = replaced_plain ModeIs.Line c l ts (line_set c l) h k (λ ts p. line_set_plain c l ts h)
       plain_line_plain c l ts Error h k = tt
       plain_line_plain c l ts Pragma h k = pragma_plain c ts h
@@ -248,6 +273,8 @@ module _ (X : Type 0) where
       plain_line_plain c l ts Ifdef h k = h
       plain_line_plain c l ts Ifndef h k = h
       plain_line_plain c l ts Elif h k = h
+      plain_line_plain c l ts Elifdef h k = h
+      plain_line_plain c l ts Elifndef h k = h
       plain_line_plain c l ts Else h k = h
       plain_line_plain c l ts Endif h k = h
       plain_line_plain c l ts Nothing h k = h
@@ -260,11 +287,14 @@ module _ (X : Type 0) where
       hash_plain c l ts Ifdef h k = effect_if (is_skipped c.stack) (opened_skipped l c) _ h (defined_plain c l ts (opened l) (λ b c p. p) h)
       hash_plain c l ts Ifndef h k = effect_if (is_skipped c.stack) (opened_skipped l c) _ h (defined_plain c l ts (λ yields. opened l (not yields)) (λ b c p. p) h)
       hash_plain c l ts Elif h k = elif_plain c l ts c.stack h k
+      hash_plain c l ts Elifdef h k = elifdef_plain c l ts c.stack h
+      hash_plain c l ts Elifndef h k = elifndef_plain c l ts c.stack h
       hash_plain c l ts Else h k = else_plain c l c.stack h
       hash_plain c l ts Endif h k = endif_plain c l c.stack h
       hash_plain c l ts Define h k = skips_plain c l ts Define h k
       hash_plain c l ts Undef h k = skips_plain c l ts Undef h k
       hash_plain c l ts Include h k = skips_plain c l ts Include h k
+      hash_plain c l ts IncludeNext h k = skips_plain c l ts IncludeNext h k
       hash_plain c l ts Renumber h k = skips_plain c l ts Renumber h k
       hash_plain c l ts Error h k = skips_plain c l ts Error h k
       hash_plain c l ts Pragma h k = skips_plain c l ts Pragma h k
@@ -302,8 +332,8 @@ module _ (X : Type 0) where
       of_plain : (c : Core) (l : Line) (ts : List Tok) → PlainCore c → OnLine l.line ts → PlainEffect (effect_of files setup c l ts)
       of_plain c l [] h k = h
       of_plain c l (t ∷ ts) h k =
-          effect_if (is_one_of ("#" ∷ "%:" ∷ []) t.text) (hash_line files setup c l (drop 1 ts) (directive_of ts)) _
-          (hash_plain c l (drop 1 ts) (directive_of ts) h (drop_plain ts (line_toks l.line ts k.1)))
+          effect_if (is_one_of ("#" ∷ "%:" ∷ []) t.text) (hash_line files setup c l (drop 1 ts) (directive_of setup.command.dialect ts)) _
+          (hash_plain c l (drop 1 ts) (directive_of setup.command.dialect ts) h (drop_plain ts (line_toks l.line ts k.1)))
           (effect_if (is_skipped c.stack) (Now c) (module_line c l (t ∷ ts)) h (module_plain c l (t ∷ ts) h k))
 
       pub effect_plain : (c : Core) (l : Line) → PlainCore c → IsPlainLine l → PlainEffect (effect files setup c l)

@@ -137,6 +137,7 @@ module _ (e : Scope) (defs : PlainDefs e.defs) (again : Again) (keeps : KeepsPla
       (paid_plain (cost + 2) (out (instead Number (decimal counter) m) (again rest (cost + 2) (counter + 1)))
       (goes_plain (instead Number (decimal counter) m) rest (cost + 2) (counter + 1) refl k)) tt
   built_in_plain BuiltInIs.HasInclude m rest cost counter h k = goes_plain m rest cost counter h k
+  built_in_plain BuiltInIs.HasIncludeNext m rest cost counter h k = goes_plain m rest cost counter h k
   built_in_plain BuiltInIs.HasAttribute m rest cost counter h k = goes_plain m rest cost counter h k
 
   with_arg_plain : (a : Arg) (r : Replaced) → PlainArg a → PlainReplaced r → PlainReplaced (with_arg again e a r)

@@ -19,7 +19,8 @@ use Rattle.scan_model.specs.Files.{FileMap}
 use Rattle.scan_model.specs.Stream.{Piece, Run, Sent}
 use Rattle.scan_model.specs.State.{Group, Setup, Core, State, Reached, Going, Stopped, then_go}
 use Rattle.scan_model.specs.Effect.{Effect, Now, Enters, Sends, Halts, Enter, done, fault, halted, stop_at}
-use Rattle.scan_model.specs.Search.{searched, with_found}
+use Rattle.scan_model.specs.Search.{searched, place_searched, with_found}
+use Rattle.scan_model.specs.HeaderName.{Named}
 use Rattle.scan_model.specs.Includes.{include}
 use Rattle.scan_model.specs.Conditionals.{is_skipped}
 use Rattle.scan_model.specs.Directives.{hash_line, directive_of}
@@ -32,7 +33,7 @@ use Rattle.unit_laws.proofs.PlainText.{StartsAs, ArePlainLines, lines_plain, Beg
 use Rattle.unit_laws.proofs.Parts.{all_append}
 use Rattle.unit_laws.proofs.PlainMacros.{PlainTok, PlainToks}
 use Rattle.unit_laws.proofs.PlainExpansion.{PlainAnswer, expand_plain}
-use Rattle.unit_laws.proofs.PlainEffects.{no_stream_kind, line_toks, PlainCore, PlainEffect, built_ins_plain, with_found_plain, include_plain, drop_plain, hash_plain, effect_plain}
+use Rattle.unit_laws.proofs.PlainEffects.{no_stream_kind, line_toks, PlainCore, PlainEffect, first_macros_plain, with_found_plain, include_plain, drop_plain, hash_plain, effect_plain}
 use Rattle.unit_laws.proofs.StreamLemmas.{read_by_tokens}
 
 abbrev InPlace : List Piece → Type 0
@@ -69,11 +70,11 @@ end_run_plain s h =
 
 module _ (X : Type 0) where
   abbrev EntersPlain : Enter X → Type 0
-  EntersPlain e = (place : Place) (path : List ℕ) (text : X) (s : State) → PlainState s → PlainReached (e place path text s)
+  EntersPlain e = (place : Place) (path : List ℕ) (chain_place : Option ℕ) (text : X) (s : State) → PlainState s → PlainReached (e place path chain_place text s)
 
   done_plain : (e : Enter X) (s : State) (f : Effect X) → EntersPlain e → PlainState s → PlainEffect X f → PlainReached (done e s f)
   done_plain e s (Now c) enters h k = (k, h.1, h.2)
-  done_plain e s (Enters place path text c) enters h k = enters place path text (record s { core = c }) (k, h.1, h.2)
+  done_plain e s (Enters place path chain_place text c) enters h k = enters place path chain_place text (record s { core = c }) (k, h.1, h.2)
   done_plain e s (Sends l c) enters h k = (k.1, h.1, all_append KeywordsInPlace s.stream (Sent l ∷ []) h.2 (k.0, tt))
   done_plain e s (Halts cause c) enters h k = h.2
 
@@ -128,8 +129,8 @@ module _ (X : Type 0) where
           either_hash false false false false e p q r h = absurd (cc)
 
     hash_if : (b : Bool) (c : Core) (l : Line) (t : Tok) (ts : List Tok) → b ≡ true → PlainCore c → PlainToks ts →
-        PlainEffect X (if b then hash_line files setup c l (drop 1 ts) (directive_of ts) else if is_skipped c.stack then Now c else module_line c l (t ∷ ts))
-    hash_if true c l t ts e h k = hash_plain X files setup c l (drop 1 ts) (directive_of ts) h (drop_plain ts k)
+        PlainEffect X (if b then hash_line files setup c l (drop 1 ts) (directive_of setup.command.dialect ts) else if is_skipped c.stack then Now c else module_line c l (t ∷ ts))
+    hash_if true c l t ts e h k = hash_plain X files setup c l (drop 1 ts) (directive_of setup.command.dialect ts) h (drop_plain ts k)
     hash_if false c l t ts e h k = absurd (cc)
 
     hash_effect : (c : Core) (l : Line) (ts : List Tok) → PlainCore c → PlainToks ts → BeginsAs 35 ts → begins_directive ts ≡ true → PlainEffect X (effect_of files setup c l ts)
@@ -144,7 +145,7 @@ module _ (X : Type 0) where
     set_first_plain number [] s k b h = h
     set_first_plain number (l ∷ ls) s k b h =
         let numbered : Line = record l { line = number; next = number + 1 } in
-        line_plain (λ place path text s. Going s) s numbered (λ place path text s h. h) h (line_toks l.line l.toks k.0)
+        line_plain (λ place path chain_place text s. Going s) s numbered (λ place path chain_place text s h. h) h (line_toks l.line l.toks k.0)
         (λ d. set_effect s.core numbered h.0 (line_toks l.line l.toks k.0) b d)
 
     setting_first : (setting : Setting) → FirstBegins 35 (lines (setting_text setting))
@@ -165,27 +166,27 @@ module _ (X : Type 0) where
     file_end_plain includer s (g ∷ gs) h = h.2
 
     module _ (view : View X) (views : (x : X) → ArePlainLines (view x)) where
-      file_plain : (e : Enter X) (path : List ℕ) (text : X) (s : State) → EntersPlain e → PlainState s → PlainReached (full_file view e files setup path text s)
+      file_plain : (e : Enter X) (path : List ℕ) (chain_place : Option ℕ) (text : X) (s : State) → EntersPlain e → PlainState s → PlainReached (full_file view e files setup path chain_place text s)
       unfolding full_file
-      file_plain e path text s enters h =
-          then_plain (λ last. at_file_end s.core (end_run last) last.core.stack) (full_lines e files setup (view text) (record s { core = at_file_start path s.core }))
-          (lines_go e (view text) (record s { core = at_file_start path s.core }) enters (views text) h)
+      file_plain e path chain_place text s enters h =
+          then_plain (λ last. at_file_end s.core (end_run last) last.core.stack) (full_lines e files setup (view text) (record s { core = at_file_start path chain_place s.core }))
+          (lines_go e (view text) (record s { core = at_file_start path chain_place s.core }) enters (views text) h)
           (λ last k. file_end_plain s.core (end_run last) last.core.stack (end_run_plain last k))
 
       enter_plain : (n : ℕ) → EntersPlain (enter view files setup n)
       unfolding enter
-      enter_plain zero place path text s h = h.2
-      enter_plain (suc n) place path text s h =
+      enter_plain zero place path chain_place text s h = h.2
+      enter_plain (suc n) place path chain_place text s h =
           reached_if (nat_le entered_limit s.core.entered) (halted (fault FaultIs.TooManyEntered place) s.core.looked s) _ h.2
-          (file_plain (enter view files setup n) path text s (enter_plain n) h)
+          (file_plain (enter view files setup n) path chain_place text s (enter_plain n) h)
 
       -- ## The unit
 
       first_file_plain : (missing : FaultKind) (path : List ℕ) (s : State) → PlainState s → PlainReached (first_file view files setup missing path s)
       first_file_plain missing path s h =
           let place : Place = record { path = path; line = 0 } in
-          done_plain (enter view files setup (201 - 0)) s (with_found files place (path ∷ []) s.core (stop_at missing place) (Enters place)) (enter_plain (201 - 0)) h
-          (with_found_plain X files place (path ∷ []) s.core (stop_at missing place) (Enters place) h.0 (λ c k. tt) (λ path text c k. k))
+          done_plain (enter view files setup (201 - 0)) s (with_found files place (path ∷ []) s.core (stop_at missing place) (λ path. Enters place path None)) (enter_plain (201 - 0)) h
+          (with_found_plain X files place (path ∷ []) s.core (stop_at missing place) (λ path. Enters place path None) h.0 (λ c k. tt) (λ path text c k. k))
 
       predefines_plain : (path : Option (List ℕ)) (s : State) → PlainState s → PlainReached (predefines view files setup path s)
       predefines_plain None s h = h
@@ -193,10 +194,12 @@ module _ (X : Type 0) where
 
       force_plain : (number : ℕ) (name : List ℕ) (s : State) → PlainState s → PlainReached (force view files setup number name s)
       force_plain number name s h =
-          let paths = searched setup (record { form = Quoted; name = name; after = [] }) setup.command.directory in
+          let named : Named = record { form = Quoted; name = name; after = [] } in
+          let paths = searched setup named setup.command.directory in
+          let places = place_searched setup named setup.command.directory in
           reached_if (length name == 0) (halted (fault FaultIs.IncludeSyntax (command_place number)) s.core.looked s) _ h.2
-          (done_plain (enter view files setup (201 - 1)) s (include files (command_place number) paths s.core) (enter_plain (201 - 1)) h
-          (include_plain X files (command_place number) paths s.core h.0))
+          (done_plain (enter view files setup (201 - 1)) s (include files (command_place number) paths places s.core) (enter_plain (201 - 1)) h
+          (include_plain X files (command_place number) paths places s.core h.0))
 
       force_all_plain : (number : ℕ) (names : List (List ℕ)) (s : State) → PlainState s → PlainReached (force_all view files setup number names s)
       force_all_plain number [] s h = h
@@ -211,7 +214,7 @@ module _ (X : Type 0) where
           then_plain (first_file view files setup FaultIs.MainMissing c.main) _
           (then_plain (force_all view files setup (length c.settings + 1) c.forced) _
           (then_plain (set_all files setup 1 c.settings) _
-          (predefines_plain setup.settings.predefines first_state (built_ins_plain, tt, tt))
+          (predefines_plain setup.settings.predefines (first_state c.dialect) (first_macros_plain c.dialect, tt, tt))
           (λ s h. set_all_plain 1 c.settings s h))
           (λ s h. force_all_plain (length c.settings + 1) c.forced s h))
           (λ s h. first_file_plain FaultIs.MainMissing c.main s h)

@@ -32,10 +32,12 @@ use Rattle.scan_model.specs.Effect.{halted, fault, Effect, Now, Enters, Sends, H
 use Rattle.scan_model.specs.State.{Group, Setup, Core, State, Needs, Reached, Going, Stopped, then_go}
 use Rattle.scan_model.specs.Stream.{ModuleLine, Piece, Run, Sent, module_lines}
 use Rattle.scan_model.specs.Replacing.{on_expanded, with_replaced}
-use Rattle.scan_model.specs.Search.{on_found, with_found, searched}
-use Rattle.scan_model.specs.Includes.{unless_once, include, include_named, include_line}
-use Rattle.scan_model.specs.Conditionals.{with_has_values, on_value, on_terms, with_condition, with_defined, is_skipped, opened, with_group, elif_line, else_line, endif_line}
-use Rattle.scan_model.specs.Directives.{Directive, If, Ifdef, Ifndef, Elif, Else, Endif, Define, Undef, Include, Renumber, Error, Pragma, Nothing, Unknown, directive_of, plain_line, hash_line, defined, undef_line, line_set, pragma_line, with_macros, quoted_name, is_line_number}
+use Rattle.scan_model.specs.Search.{on_found, with_found, searched, place_searched, search_form}
+use Rattle.scan_model.specs.Includes.{unless_once, include, include_by, include_named, include_line}
+use Rattle.scan_model.specs.Conditionals.{with_has_values, on_value, on_terms, with_condition, with_defined, is_skipped, opened, with_group, next_group, elif_line, elifdef_line, elifndef_line, else_line, endif_line}
+use Rattle.scan_model.specs.declared.directive.Directive.{Directive}
+use Rattle.scan_model.specs.declared.directive.Directive.TheVariants.{If, Ifdef, Ifndef, Elif, Elifdef, Elifndef, Else, Endif, Define, Undef, Include, IncludeNext, Renumber, Error, Pragma, Nothing, Unknown}
+use Rattle.scan_model.specs.Directives.{directive_of, plain_line, hash_line, defined, undef_line, line_set, pragma_line, with_macros, quoted_name, is_line_number}
 use Rattle.scan_model.specs.KeywordLines.{module_line, keyword_line, is_object_like, as_keyword, sent}
 use Rattle.scan_model.specs.DirectiveLines.{effect_of, effect}
 use Rattle.scan_model.specs.WholeFile.{View, entered_limit, end_run, run_done, full_line, full_lines, full_file, enter, at_file_end, at_file_start, back_in, joined}
@@ -71,7 +73,7 @@ module _ (X Y : Type 0) (view : View X) (other : View Y) where
 
   abbrev pub SameEffect : Effect X → Effect Y → Type 0
   SameEffect (Now c) (Now d) = c ≡ d
-  SameEffect (Enters place path x c) (Enters place' path' y d) = (place ≡ place') × (path ≡ path') × SameText x y × (c ≡ d)
+  SameEffect (Enters place path chain_place x c) (Enters place' path' chain_place' y d) = (place ≡ place') × (path ≡ path') × (chain_place ≡ chain_place') × SameText x y × (c ≡ d)
   SameEffect (Sends l c) (Sends m d) = (l ≡ m) × (c ≡ d)
   SameEffect (Halts cause c) (Halts cause' d) = (cause ≡ cause') × (c ≡ d)
   SameEffect e f = ⊥
@@ -135,8 +137,10 @@ module _ (X Y : Type 0) (view : View X) (other : View Y) where
   same_on_found place c a b p q k m (At path content) (At path' another) h = absurd h.1
   same_on_found place c a b p q k m found another h = absurd h
 
-  same_unless_once : (place : Place) (path : List ℕ) (x : X) (y : Y) (c : Core) → SameText x y → SameEffect (unless_once place path x c) (unless_once place path y c)
-  same_unless_once place path x y c h = same_if (c.once path) (Now c) (Enters place path x c) (Now c) (Enters place path y c) refl (refl, refl, h, refl)
+  same_unless_once : (place : Place) (places : List ℕ → Option ℕ) (path : List ℕ) (x : X) (y : Y) (c : Core) → SameText x y →
+      SameEffect (unless_once place places path x c) (unless_once place places path y c)
+  same_unless_once place places path x y c h =
+      same_if (c.once path) (Now c) (Enters place path (places path) x c) (Now c) (Enters place path (places path) y c) refl (refl, refl, refl, h, refl)
 
   module _ (files : FileMap X) (others : FileMap Y) (same : SameFiles X Y view other files others) where
     same_find : (paths : List (List ℕ)) → SameFound (find files paths) (find others paths)
@@ -156,18 +160,19 @@ module _ (X Y : Type 0) (view : View X) (other : View Y) where
         subst (λ l. SameEffect (with_found files place paths c a p) (on_found place (record c { looked = c.looked ++ l }) b q (find others paths))) (same_looked paths)
         (same_on_found place (record c { looked = c.looked ++ looked_at files paths }) a b p q k m (find files paths) (find others paths) (same_find paths))
 
-    pub same_include : (place : Place) (paths : List (List ℕ)) (c : Core) → SameEffect (include files place paths c) (include others place paths c)
-    same_include place paths c =
-        same_with_found place paths c (stop_at FaultIs.IncludeNotFound place) (stop_at FaultIs.IncludeNotFound place) (unless_once place) (unless_once place)
-        (λ c. (refl, refl)) (λ path x y c h. same_unless_once place path x y c h)
+    pub same_include : (place : Place) (paths : List (List ℕ)) (places : List ℕ → Option ℕ) (c : Core) →
+        SameEffect (include files place paths places c) (include others place paths places c)
+    same_include place paths places c =
+        same_with_found place paths c (stop_at FaultIs.IncludeNotFound place) (stop_at FaultIs.IncludeNotFound place) (unless_once place places) (unless_once place places)
+        (λ c. (refl, refl)) (λ path x y c h. same_unless_once place places path x y c h)
 
     module _ (setup : Setup) where
       same_has_values : (l : Line) (ts : List Term) (c : Core) (g : List Bool → Core → Effect X) (h : List Bool → Core → Effect Y) →
           ((bs : List Bool) (c : Core) → SameEffect (g bs c) (h bs c)) → SameEffect (with_has_values files setup l ts c g) (with_has_values others setup l ts c h)
       same_has_values l [] c g h each = each [] c
       same_has_values l (Plain t ∷ ts) c g h each = same_has_values l ts c g h each
-      same_has_values l (Has form name ∷ ts) c g h each =
-          same_with_found (place_of c l) (searched setup (record { form = form; name = name; after = [] }) (folder c.path)) c
+      same_has_values l (Has next form name ∷ ts) c g h each =
+          same_with_found (place_of c l) (searched setup (record { form = search_form next c.chain_place form; name = name; after = [] }) (folder c.path)) c
           (λ c. with_has_values files setup l ts c (λ has. g (false ∷ has))) (λ c. with_has_values others setup l ts c (λ has. h (false ∷ has)))
           (λ path x c. with_has_values files setup l ts c (λ has. g (true ∷ has))) (λ path x c. with_has_values others setup l ts c (λ has. h (true ∷ has)))
           (λ c. same_has_values l ts c (λ has. g (false ∷ has)) (λ has. h (false ∷ has)) (λ bs c. each (false ∷ bs) c))
@@ -200,11 +205,24 @@ module _ (X Y : Type 0) (view : View X) (other : View Y) where
           same_if (is_of Ident t) (g (is_some (c.macros.defs t.text)) c) (stop FaultIs.BadCondition c l) (h (is_some (c.macros.defs t.text)) c) (stop FaultIs.BadCondition c l)
           (each (is_some (c.macros.defs t.text)) c) (refl, refl)
 
-      same_elif : (c : Core) (l : Line) (ts : List Tok) (gs : List Group) → SameEffect (elif_line files setup c l ts gs) (elif_line others setup c l ts gs)
-      same_elif c l ts [] = (refl, refl)
-      same_elif c l ts (g ∷ gs) =
+      same_group : (c : Core) (l : Line) (p : (Bool → Core → Effect X) → Effect X) (q : (Bool → Core → Effect Y) → Effect Y) →
+          ((g : Bool → Core → Effect X) (h : Bool → Core → Effect Y) → SameFurther g h → SameEffect (p g) (q h)) → (gs : List Group) →
+          SameEffect (next_group c l p gs) (next_group c l q gs)
+      same_group c l p q each [] = (refl, refl)
+      same_group c l p q each (g ∷ gs) =
           same_if g.past_else _ _ _ _ (refl, refl) (same_if g.taken _ _ _ _ refl
-          (same_condition c l ts (λ yields. with_group (record g { live = yields; taken = yields }) gs) (λ yields. with_group (record g { live = yields; taken = yields }) gs) (λ b c. refl)))
+          (each (λ yields. with_group (record g { live = yields; taken = yields }) gs) (λ yields. with_group (record g { live = yields; taken = yields }) gs) (λ b c. refl)))
+
+      same_elif : (c : Core) (l : Line) (ts : List Tok) (gs : List Group) → SameEffect (elif_line files setup c l ts gs) (elif_line others setup c l ts gs)
+      same_elif c l ts gs = same_group c l (with_condition files setup c l ts) (with_condition others setup c l ts) (same_condition c l ts) gs
+
+      same_elifdef : (c : Core) (l : Line) (ts : List Tok) (gs : List Group) → SameEffect (elifdef_line c l ts gs) (elifdef_line c l ts gs)
+      same_elifdef c l ts gs = same_group c l (with_defined c l ts) (with_defined c l ts) (same_defined c l ts) gs
+
+      same_elifndef : (c : Core) (l : Line) (ts : List Tok) (gs : List Group) → SameEffect (elifndef_line c l ts gs) (elifndef_line c l ts gs)
+      same_elifndef c l ts gs =
+          same_group c l (λ further. with_defined c l ts (λ yields. further (not yields))) (λ further. with_defined c l ts (λ yields. further (not yields)))
+          (λ g h each. same_defined c l ts (λ yields. g (not yields)) (λ yields. h (not yields)) (λ b c. each (not b) c)) gs
 
       same_else : (c : Core) (l : Line) (gs : List Group) → SameEffect (else_line c l gs) (else_line c l gs)
       same_else c l [] = (refl, refl)
@@ -214,14 +232,17 @@ module _ (X Y : Type 0) (view : View X) (other : View Y) where
       same_endif c l [] = (refl, refl)
       same_endif c l (g ∷ gs) = refl
 
-      same_included : (c : Core) (l : Line) (n : Option Named) → SameEffect (include_named files setup c l n) (include_named others setup c l n)
-      same_included c l None = (refl, refl)
-      same_included c l (Some n) = same_include (place_of c l) (searched setup n (folder c.path)) c
+      same_included_by : (c : Core) (l : Line) (n : Named) → SameEffect (include_by files setup c l n) (include_by others setup c l n)
+      same_included_by c l n = same_include (place_of c l) (searched setup n (folder c.path)) (place_searched setup n (folder c.path)) c
 
-      same_include_line : (c : Core) (l : Line) (ts : List Tok) → SameEffect (include_line files setup c l ts) (include_line others setup c l ts)
-      same_include_line c l [] = same_replaced ModeIs.Line c l [] _ _ (λ toks. same_included c l (option_and_then nonempty (name_of toks)))
-      same_include_line c l (t ∷ ts) = same_if (is_of Header t) _ _ _ _ (same_included c l (nonempty (header t ts)))
-          (same_replaced ModeIs.Line c l (t ∷ ts) _ _ (λ toks. same_included c l (option_and_then nonempty (name_of toks))))
+      same_included : (next : Bool) (c : Core) (l : Line) (n : Option Named) → SameEffect (include_named next files setup c l n) (include_named next others setup c l n)
+      same_included next c l None = (refl, refl)
+      same_included next c l (Some n) = same_included_by c l (record n { form = search_form next c.chain_place n.form })
+
+      same_include_line : (next : Bool) (c : Core) (l : Line) (ts : List Tok) → SameEffect (include_line next files setup c l ts) (include_line next others setup c l ts)
+      same_include_line next c l [] = same_replaced ModeIs.Line c l [] _ _ (λ toks. same_included next c l (option_and_then nonempty (name_of toks)))
+      same_include_line next c l (t ∷ ts) = same_if (is_of Header t) _ _ _ _ (same_included next c l (nonempty (header t ts)))
+          (same_replaced ModeIs.Line c l (t ∷ ts) _ _ (λ toks. same_included next c l (option_and_then nonempty (name_of toks))))
 
       -- ## The other directives
 
@@ -251,7 +272,8 @@ module _ (X Y : Type 0) (view : View X) (other : View Y) where
       same_plain : (c : Core) (l : Line) (ts : List Tok) (d : Directive) → SameEffect (plain_line files setup c l ts d) (plain_line others setup c l ts d)
       same_plain c l ts Define = same_define c l (read_define ts)
       same_plain c l ts Undef = same_undef c l ts
-      same_plain c l ts Include = same_include_line c l ts
+      same_plain c l ts Include = same_include_line false c l ts
+      same_plain c l ts IncludeNext = same_include_line true c l ts
       same_plain c l ts Renumber = same_replaced ModeIs.Line c l ts (line_set c l) (line_set c l) (same_line_set c l)
       same_plain c l ts Error = (refl, refl)
       same_plain c l ts Pragma = same_pragma c ts
@@ -260,6 +282,8 @@ module _ (X Y : Type 0) (view : View X) (other : View Y) where
       same_plain c l ts Ifdef = refl
       same_plain c l ts Ifndef = refl
       same_plain c l ts Elif = refl
+      same_plain c l ts Elifdef = refl
+      same_plain c l ts Elifndef = refl
       same_plain c l ts Else = refl
       same_plain c l ts Endif = refl
       same_plain c l ts Nothing = refl
@@ -270,11 +294,14 @@ module _ (X Y : Type 0) (view : View X) (other : View Y) where
       same_hash c l ts Ifndef = same_if (is_skipped c.stack) _ _ _ _ refl
           (same_defined c l ts (λ yields. opened l (not yields)) (λ yields. opened l (not yields)) (λ b c. refl))
       same_hash c l ts Elif = same_elif c l ts c.stack
+      same_hash c l ts Elifdef = same_elifdef c l ts c.stack
+      same_hash c l ts Elifndef = same_elifndef c l ts c.stack
       same_hash c l ts Else = same_else c l c.stack
       same_hash c l ts Endif = same_endif c l c.stack
       same_hash c l ts Define = same_if (is_skipped c.stack) _ _ _ _ refl (same_plain c l ts Define)
       same_hash c l ts Undef = same_if (is_skipped c.stack) _ _ _ _ refl (same_plain c l ts Undef)
       same_hash c l ts Include = same_if (is_skipped c.stack) _ _ _ _ refl (same_plain c l ts Include)
+      same_hash c l ts IncludeNext = same_if (is_skipped c.stack) _ _ _ _ refl (same_plain c l ts IncludeNext)
       same_hash c l ts Renumber = same_if (is_skipped c.stack) _ _ _ _ refl (same_plain c l ts Renumber)
       same_hash c l ts Error = same_if (is_skipped c.stack) _ _ _ _ refl (same_plain c l ts Error)
       same_hash c l ts Pragma = same_if (is_skipped c.stack) _ _ _ _ refl (same_plain c l ts Pragma)
@@ -294,7 +321,7 @@ module _ (X Y : Type 0) (view : View X) (other : View Y) where
 
       same_effect_of : (c : Core) (l : Line) (ts : List Tok) → SameEffect (effect_of files setup c l ts) (effect_of others setup c l ts)
       same_effect_of c l [] = refl
-      same_effect_of c l (t ∷ ts) = same_if (is_one_of ("#" ∷ "%:" ∷ []) t.text) _ _ _ _ (same_hash c l (drop 1 ts) (directive_of ts))
+      same_effect_of c l (t ∷ ts) = same_if (is_one_of ("#" ∷ "%:" ∷ []) t.text) _ _ _ _ (same_hash c l (drop 1 ts) (directive_of setup.command.dialect ts))
           (same_if (is_skipped c.stack) _ _ _ _ refl (same_module c l (t ∷ ts)))
 
       -- the effect of a line depends on the core, and of the files on their directives alone
@@ -330,14 +357,16 @@ alike_trans (Stopped s) (Going r) g k m = absurd k
 
 module _ (X Y : Type 0) (view : View X) (other : View Y) (e : Enter X) (f : Enter Y) where
   abbrev pub EntersAlike : Type 0
-  EntersAlike = (place : Place) (path : List ℕ) (x : X) (y : Y) (s r : State) → SameText X Y view other x y → Similar s r → Alike (e place path x s) (f place path y r)
+  EntersAlike = (place : Place) (path : List ℕ) (chain_place : Option ℕ) (x : X) (y : Y) (s r : State) → SameText X Y view other x y → Similar s r →
+      Alike (e place path chain_place x s) (f place path chain_place y r)
 
   pub done_alike : EntersAlike → (s r : State) → Similar s r → (a : Effect X) (b : Effect Y) → SameEffect X Y view other a b → Alike (done e s a) (done f r b)
   done_alike each s r k (Now c) (Now d) h = (h, k.1)
-  done_alike each s r k (Enters place path x c) (Enters place' path' y d) h =
-      subst (λ z. Alike (done e s (Enters place path x c)) (f z path' y (record r { core = d }))) h.0
-      (subst (λ z. Alike (done e s (Enters place path x c)) (f place z y (record r { core = d }))) h.1
-      (each place path x y (record s { core = c }) (record r { core = d }) h.2 (h.3, k.1)))
+  done_alike each s r k (Enters place path chain_place x c) (Enters place' path' chain_place' y d) h =
+      subst (λ z. Alike (done e s (Enters place path chain_place x c)) (f z path' chain_place' y (record r { core = d }))) h.0
+      (subst (λ z. Alike (done e s (Enters place path chain_place x c)) (f place z chain_place' y (record r { core = d }))) h.1
+      (subst (λ z. Alike (done e s (Enters place path chain_place x c)) (f place path z y (record r { core = d }))) h.2
+      (each place path chain_place x y (record s { core = c }) (record r { core = d }) h.3 (h.4, k.1))))
   done_alike each s r k (Sends l c) (Sends m d) h =
       (h.1, one_sent s.stream l ∙ ap (λ ls. ls ++ l ∷ []) k.1 ∙ ap (λ m. module_lines r.stream ++ m ∷ []) h.0 ∙ sym (one_sent r.stream m))
   done_alike each s r k (Halts cause c) (Halts cause' d) h = (h.0, ap (λ c. c.looked) h.1, k.1)
@@ -352,7 +381,7 @@ similar_sym s r k = (sym k.0, sym k.1)
 runs_similar : (s r : State) → Similar s r → Similar (end_run s) (end_run r)
 runs_similar s r k = similar_trans (end_run s) s (end_run r) (run_keeps s) (similar_trans s r (end_run r) k (similar_sym (end_run r) r (run_keeps r)))
 
-line_of_directive : (X : Type 0) (e : Enter X) (files : FileMap X) (setup : Setup) (s : State) (l : Line) → is_directive l ≡ true →
+pub line_of_directive : (X : Type 0) (e : Enter X) (files : FileMap X) (setup : Setup) (s : State) (l : Line) → is_directive l ≡ true →
     full_line e files setup s l ≡ done e (end_run s) (effect files setup s.core l)
 unfolding full_line
 line_of_directive X e files setup s l h = rw h refl
@@ -429,33 +458,34 @@ module _ (X Y : Type 0) (view : View X) (other : View Y) (e : Enter X) (f : Ente
       subst (λ q. Alike (at_file_end c (end_run s) s.core.stack) (at_file_end d (end_run r) q.stack)) k.0
       (end_groups c d h (end_run s) (end_run r) (runs_similar s r k) s.core.stack)
 
-  file_alike : (path : List ℕ) (x : X) (y : Y) (s r : State) → SameText X Y view other x y → Similar s r →
-      Alike (full_file view e files setup path x s) (full_file other f others setup path y r)
+  file_alike : (path : List ℕ) (chain_place : Option ℕ) (x : X) (y : Y) (s r : State) → SameText X Y view other x y → Similar s r →
+      Alike (full_file view e files setup path chain_place x s) (full_file other f others setup path chain_place y r)
   unfolding full_file
-  file_alike path x y s r h k =
+  file_alike path chain_place x y s r h k =
       alike_go (λ last. at_file_end s.core (end_run last) last.core.stack) (λ last. at_file_end r.core (end_run last) last.core.stack)
       (λ last last' m. end_alike s.core r.core k.0 last last' m)
-      (full_lines e files setup (view x) (record s { core = at_file_start path s.core })) (full_lines f others setup (other y) (record r { core = at_file_start path r.core }))
-      (lines_alike (view x) (other y) (record s { core = at_file_start path s.core }) (record r { core = at_file_start path r.core }) h (ap (at_file_start path) k.0, k.1))
+      (full_lines e files setup (view x) (record s { core = at_file_start path chain_place s.core })) (full_lines f others setup (other y) (record r { core = at_file_start path chain_place r.core }))
+      (lines_alike (view x) (other y) (record s { core = at_file_start path chain_place s.core }) (record r { core = at_file_start path chain_place r.core }) h (ap (at_file_start path chain_place) k.0, k.1))
 
 pub enter_alike : (setup : Setup) (n : ℕ) (X Y : Type 0) (view : View X) (other : View Y) (files : FileMap X) (others : FileMap Y) → SameFiles X Y view other files others →
     EntersAlike X Y view other (enter view files setup n) (enter other others setup n)
 unfolding enter
-enter_alike setup zero X Y view other files others same place path x y s r h k = (refl, ap (λ c. c.looked) k.0, k.1)
-enter_alike setup (suc n) X Y view other files others same place path x y s r h k =
-    subst (λ c. Alike (enter view files setup (suc n) place path x s)
-    (if nat_le entered_limit c.entered then halted (fault FaultIs.TooManyEntered place) r.core.looked r else full_file other (enter other others setup n) others setup path y r)) k.0
+enter_alike setup zero X Y view other files others same place path chain_place x y s r h k = (refl, ap (λ c. c.looked) k.0, k.1)
+enter_alike setup (suc n) X Y view other files others same place path chain_place x y s r h k =
+    subst (λ c. Alike (enter view files setup (suc n) place path chain_place x s)
+    (if nat_le entered_limit c.entered then halted (fault FaultIs.TooManyEntered place) r.core.looked r else full_file other (enter other others setup n) others setup path chain_place y r)) k.0
     (alike_if (nat_le entered_limit s.core.entered)
-    (halted (fault FaultIs.TooManyEntered place) s.core.looked s) (full_file view (enter view files setup n) files setup path x s)
-    (halted (fault FaultIs.TooManyEntered place) r.core.looked r) (full_file other (enter other others setup n) others setup path y r)
+    (halted (fault FaultIs.TooManyEntered place) s.core.looked s) (full_file view (enter view files setup n) files setup path chain_place x s)
+    (halted (fault FaultIs.TooManyEntered place) r.core.looked r) (full_file other (enter other others setup n) others setup path chain_place y r)
     (refl, ap (λ c. c.looked) k.0, k.1)
     (file_alike X Y view other (enter view files setup n) (enter other others setup n) files others same setup
     (enter_alike setup n X Y view other files others same)
-    (enter_alike setup n Y Y other other others others (λ path. same_content_refl Y other (others path))) path x y s r h k))
+    (enter_alike setup n Y Y other other others others (λ path. same_content_refl Y other (others path))) path chain_place x y s r h k))
 
 -- whole files with the same directives are gone through alike
 pub reduction_of_files : (X Y : Type 0) (view : View X) (other : View Y) → FileAlike X Y view other
-reduction_of_files X Y view other files others setup n place path x y s r same h k = enter_alike setup n X Y view other files others same place path x y s r h k
+reduction_of_files X Y view other files others setup n place path chain_place x y s r same h k =
+    enter_alike setup n X Y view other files others same place path chain_place x y s r h k
 
 -- and so are lists of lines
 pub reduction_of_lines : (X Y : Type 0) (view : View X) (other : View Y) → LinesAlike X Y view other

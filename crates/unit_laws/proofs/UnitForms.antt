@@ -6,6 +6,7 @@ use Rattle.scan_model.specs.declared.token.Tok.{Tok}
 use Rattle.scan_model.specs.declared.unit_end.FaultKind.{FaultKind}
 use Rattle.scan_model.specs.declared.unit_end.UnitEnd.TheVariants as Ends
 use Rattle.scan_model.specs.declared.command.Command.{Command}
+use Rattle.scan_model.specs.declared.command.Dialect.TheVariants.{Cxx20, Cxx23}
 use Rattle.scan_model.specs.declared.command.Setting.{Setting}
 use Rattle.scan_model.specs.declared.command.Settings.{Settings}
 use Rattle.scan_model.specs.declared.command.Job.TheVariants as JobIs
@@ -43,10 +44,18 @@ plain = record {
   settings = [];
   forced = [];
   search = record { quote = []; angled = []; system = []; after = [] };
+  dialect = Cxx20;
 }
 
 abbrev pub with_folder : String → Command
 with_folder folder = record plain { search = record { quote = []; angled = codes folder ∷ []; system = []; after = [] } }
+
+abbrev pub with_folders : List String → Command
+with_folders folders = record plain { search = record { quote = []; angled = map codes folders; system = []; after = [] } }
+
+-- the same command in C++23
+abbrev pub in_cxx23 : Command → Command
+in_cxx23 command = record command { dialect = Cxx23 }
 
 abbrev pub with_settings : List Setting → Command
 with_settings settings = record plain { settings = settings }
@@ -69,6 +78,10 @@ ends_with files = ends_by (files_of files) plain
 -- a unit of one file
 abbrev pub ends : String → Answer
 ends text = ends_with (("/p/u.cpp", text) ∷ [])
+
+-- the same in C++23
+abbrev pub ends_in_cxx23 : String → Answer
+ends_in_cxx23 text = ends_by (files_of (("/p/u.cpp", text) ∷ [])) (in_cxx23 plain)
 
 abbrev pub looks_by : FileMap (List ℕ) → Command → List (List ℕ)
 looks_by files command = looked files no_settings (JobIs.Run command)

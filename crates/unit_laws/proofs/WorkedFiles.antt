@@ -5,6 +5,7 @@ use Rattle.unit_laws.proofs.Computing.{running}
 use Rattle.unit_laws.proofs.UnitForms.{files_of, except, lacking, plain, with_folder, with_settings, with_forced, no_settings, ends_by, ends_with, ends, looks_by, looks_with, requiring, providing, stops_at, stops}
 use Rattle.std.specs.Prelude.{Some, None}
 use Rattle.scan_model.specs.declared.command.Setting.TheVariants.{Define, Undef}
+use Rattle.scan_model.specs.declared.command.Dialect.TheVariants.{Cxx20}
 use Rattle.scan_model.specs.declared.command.Job.TheVariants as JobIs
 use Rattle.scan_model.specs.declared.command.CommandFault.TheVariants as CommandIs
 use Rattle.scan_model.specs.declared.unit_end.UnitEnd.TheVariants as Ends
@@ -238,10 +239,10 @@ a_refused_command_ends_with_its_refusal : answer (files_of []) no_settings (JobI
 unfolding running
 a_refused_command_ends_with_its_refusal = refl
 
-a_usual_command : answer (files_of (("/p/predef.h", "#define __clang__ 1\n") ∷ ("/p/include/config.h", "#pragma once\n#if defined(__clang__) && __cplusplus >= 202002L\n#define USE_IO 1\n#endif\n") ∷ ("/opt/lib/include/lib.h", "#ifndef LIB_H\n#define LIB_H\nint lib();\n#endif\n") ∷ ("/p/main.cpp", "#include <config.h>\n#include <lib.h>\nimport core;\n#if USE_IO\nimport core.io;\n#endif\nint main() { }\n") ∷ [])) (record { predefines = Some (codes "/p/predef.h"); program = [] }) (JobIs.Run (record { directory = codes "/p/build"; main = codes "/p/main.cpp"; source = codes "/p/main.cpp"; output = codes "main.cpp.o"; settings = Define (codes "NDEBUG 1") ∷ Define (codes "NAME \"app\"") ∷ []; forced = []; search = record { quote = []; angled = codes "/p/include" ∷ []; system = codes "/opt/lib/include" ∷ []; after = [] } })) ≡ Known (Ends.Record (record { output = codes "main.cpp.o"; source = codes "/p/main.cpp"; provides = None; required = map codes ("core" ∷ "core.io" ∷ []) }))
+a_usual_command : answer (files_of (("/p/predef.h", "#define __clang__ 1\n") ∷ ("/p/include/config.h", "#pragma once\n#if defined(__clang__) && __cplusplus >= 202002L\n#define USE_IO 1\n#endif\n") ∷ ("/opt/lib/include/lib.h", "#ifndef LIB_H\n#define LIB_H\nint lib();\n#endif\n") ∷ ("/p/main.cpp", "#include <config.h>\n#include <lib.h>\nimport core;\n#if USE_IO\nimport core.io;\n#endif\nint main() { }\n") ∷ [])) (record { predefines = Some (codes "/p/predef.h"); program = [] }) (JobIs.Run (record { directory = codes "/p/build"; main = codes "/p/main.cpp"; source = codes "/p/main.cpp"; output = codes "main.cpp.o"; settings = Define (codes "NDEBUG 1") ∷ Define (codes "NAME \"app\"") ∷ []; forced = []; search = record { quote = []; angled = codes "/p/include" ∷ []; system = codes "/opt/lib/include" ∷ []; after = [] }; dialect = Cxx20 })) ≡ Known (Ends.Record (record { output = codes "main.cpp.o"; source = codes "/p/main.cpp"; provides = None; required = map codes ("core" ∷ "core.io" ∷ []) }))
 unfolding running
 a_usual_command = refl
 
-a_usual_command_looks : looked (files_of (("/p/predef.h", "#define __clang__ 1\n") ∷ ("/p/include/config.h", "#pragma once\n#if defined(__clang__) && __cplusplus >= 202002L\n#define USE_IO 1\n#endif\n") ∷ ("/opt/lib/include/lib.h", "#ifndef LIB_H\n#define LIB_H\nint lib();\n#endif\n") ∷ ("/p/main.cpp", "#include <config.h>\n#include <lib.h>\nimport core;\n#if USE_IO\nimport core.io;\n#endif\nint main() { }\n") ∷ [])) (record { predefines = Some (codes "/p/predef.h"); program = [] }) (JobIs.Run (record { directory = codes "/p/build"; main = codes "/p/main.cpp"; source = codes "/p/main.cpp"; output = codes "main.cpp.o"; settings = Define (codes "NDEBUG 1") ∷ Define (codes "NAME \"app\"") ∷ []; forced = []; search = record { quote = []; angled = codes "/p/include" ∷ []; system = codes "/opt/lib/include" ∷ []; after = [] } })) ≡ map codes ("/p/predef.h" ∷ "/p/main.cpp" ∷ "/p/include/config.h" ∷ "/p/include/lib.h" ∷ "/opt/lib/include/lib.h" ∷ [])
+a_usual_command_looks : looked (files_of (("/p/predef.h", "#define __clang__ 1\n") ∷ ("/p/include/config.h", "#pragma once\n#if defined(__clang__) && __cplusplus >= 202002L\n#define USE_IO 1\n#endif\n") ∷ ("/opt/lib/include/lib.h", "#ifndef LIB_H\n#define LIB_H\nint lib();\n#endif\n") ∷ ("/p/main.cpp", "#include <config.h>\n#include <lib.h>\nimport core;\n#if USE_IO\nimport core.io;\n#endif\nint main() { }\n") ∷ [])) (record { predefines = Some (codes "/p/predef.h"); program = [] }) (JobIs.Run (record { directory = codes "/p/build"; main = codes "/p/main.cpp"; source = codes "/p/main.cpp"; output = codes "main.cpp.o"; settings = Define (codes "NDEBUG 1") ∷ Define (codes "NAME \"app\"") ∷ []; forced = []; search = record { quote = []; angled = codes "/p/include" ∷ []; system = codes "/opt/lib/include" ∷ []; after = [] }; dialect = Cxx20 })) ≡ map codes ("/p/predef.h" ∷ "/p/main.cpp" ∷ "/p/include/config.h" ∷ "/p/include/lib.h" ∷ "/opt/lib/include/lib.h" ∷ [])
 unfolding running
 a_usual_command_looks = refl

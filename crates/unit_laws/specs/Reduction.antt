@@ -68,9 +68,9 @@ module _ (X Y : Type 0) (view : View X) (other : View Y) where
 
   -- and so are whole files, with all that is entered from them
   abbrev pub FileAlike : Type 0
-  FileAlike = (files : FileMap X) (others : FileMap Y) (setup : Setup) (n : ℕ) (place : Place) (path : List ℕ) (x : X) (y : Y) (s r : State) →
+  FileAlike = (files : FileMap X) (others : FileMap Y) (setup : Setup) (n : ℕ) (place : Place) (path : List ℕ) (chain_place : Option ℕ) (x : X) (y : Y) (s r : State) →
       SameFiles files others → filter is_directive (view x) ≡ filter is_directive (other y) → Similar s r →
-      Alike (enter view files setup n place path x s) (enter other others setup n place path y r)
+      Alike (enter view files setup n place path chain_place x s) (enter other others setup n place path chain_place y r)
 
 -- ## Units
 

@@ -4,11 +4,17 @@
 //! says which lines that text has.
 #![tactic(auto)]
 
+mod chain;
 mod growth;
 mod known_answers;
 mod reduction;
+mod skipping;
 mod streams;
 
+pub use chain::{
+    a_found_file_has_its_candidates_place, a_next_search_goes_on_behind,
+    placed_paths_are_the_candidates,
+};
 pub use growth::{a_needed_path_was_looked_at_last, an_end_stays, looked_paths_grow};
 pub use known_answers::{
     a_known_end_is_the_answer, a_needed_path_comes_next, a_needed_path_leaves_one_to_ask,
@@ -20,6 +26,7 @@ pub use reduction::{
     kept_lines_give_the_answer, lines_with_the_same_directives_act_alike,
     reduced_files_give_the_answer, text_changes_the_run_alone,
 };
+pub use skipping::skips_tell_what_lines_give;
 pub use streams::{
     keywords_stand_in_module_lines_alone, tokens_give_what_module_lines_give,
     units_read_by_tokens_alike,

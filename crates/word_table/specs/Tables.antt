@@ -11,7 +11,8 @@ abbrev pub directive_words : List Entry
 directive_words =
     row "define" 0 ∷ row "undef" 1
     ∷ row "if" 2 ∷ row "elif" 3 ∷ row "ifdef" 4 ∷ row "ifndef" 5 ∷ row "else" 6 ∷ row "endif" 7
-    ∷ row "include" 8 ∷ row "line" 9 ∷ row "error" 10 ∷ row "pragma" 11 ∷ row "warning" 12 ∷ row "ident" 13 ∷ []
+    ∷ row "include" 8 ∷ row "line" 9 ∷ row "error" 10 ∷ row "pragma" 11 ∷ row "warning" 12 ∷ row "ident" 13
+    ∷ row "elifdef" 14 ∷ row "elifndef" 15 ∷ row "include_next" 16 ∷ []
 
 -- the punctuators that aren't words ([lex.operators]), and last the digraphs with the numbers of their primary tokens
 abbrev pub punctuators : List Entry

@@ -16,10 +16,11 @@ macro_rules! rows {
 pub fn directive_word(word: &[u8]) -> Option<u32>
     ensures { result ≡ option_map value_of (find (has_word word.now) directive_words) }
 {
-    const ROWS: [Row; 14] = rows![
+    const ROWS: [Row; 17] = rows![
         b"define" => 0, b"undef" => 1,
         b"if" => 2, b"elif" => 3, b"ifdef" => 4, b"ifndef" => 5, b"else" => 6, b"endif" => 7,
         b"include" => 8, b"line" => 9, b"error" => 10, b"pragma" => 11, b"warning" => 12, b"ident" => 13,
+        b"elifdef" => 14, b"elifndef" => 15, b"include_next" => 16,
     ];
     find(&ROWS, word)
 }

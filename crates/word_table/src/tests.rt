@@ -9,7 +9,9 @@ fn tables_give_their_values(rt: HostRuntime) -> Result<(), Fail> {
     assert_eq!(rt; operator_word(b"and"), Some(41));
     assert_eq!(rt; operator_word(b"an"), None);
     assert_eq!(rt; directive_word(b"ident"), Some(13));
-    assert_eq!(rt; directive_word(b"elifdef"), None);
+    assert_eq!(rt; directive_word(b"elifdef"), Some(14));
+    assert_eq!(rt; directive_word(b"elifndef"), Some(15));
+    assert_eq!(rt; directive_word(b"include_next"), Some(16));
     assert_eq!(rt; attribute_value(b"nodiscard"), Some(201907));
     assert_eq!(rt; attribute_value(b"packed"), None);
     Ok(())

@@ -140,6 +140,8 @@ defined ( A ) => 1
 defined ( A => defined (
 defined __COUNTER__ => 1
 __has_include ( A ) => __has_include ( )
+__has_include_next ( A ) => __has_include_next ( )
+defined __has_include_next => 1
 #define X
 #define E defined ( X )
 defined ( X ) + defined Y => 1 + 0
@@ -157,6 +159,7 @@ fn built_in_names_have_values(rt: HostRuntime) -> Result<(), Fail> {
 __LINE__ __FILE__ => 5 "f.cpp"
 __DATE__ __TIME__ => "Jan  1 1970" "00:00:00"
 __cplusplus defined __has_include => 202002L defined __has_include
+__has_include_next ( __LINE__ ) => __has_include_next ( 5 )
 #define pass ( a ) a
 pass ( __COUNTER__ ) __COUNTER__ => 5 6"#,
     )

@@ -50,3 +50,11 @@ returns-in-HasAttribute c =
     turns-at c.goes_out-in-HasAttribute.result e _ _ _ _ _
     (ap (λ (b : BuiltIn). continued e m (built_in (expands e) e b (marked_of m.sets c.args.name) (all_marked_of m.sets m.todo.first) m.cost m.counter)) (sym c.in-HasAttribute.is))
     (omega arith) c.goes_out-in-HasAttribute.ensures
+
+pub returns-in-HasIncludeNext : goal.returns-in-HasIncludeNext
+returns-in-HasIncludeNext c =
+    let m = c.args.self.now in
+    let e = scope_of c.args.scope.now in
+    turns-at c.goes_out-in-HasIncludeNext.result e _ _ _ _ _
+    (ap (λ (b : BuiltIn). continued e m (built_in (expands e) e b (marked_of m.sets c.args.name) (all_marked_of m.sets m.todo.first) m.cost m.counter)) (sym c.in-HasIncludeNext.is))
+    (omega arith) c.goes_out-in-HasIncludeNext.ensures
