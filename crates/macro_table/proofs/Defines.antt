@@ -1,5 +1,5 @@
 -- What the tokens after `define` define, step by step.
-use Rattle.std.proofs.Common.{◌≡◌, ℕ, Bool, true, false, List, [], ◌∷◌, ◌-◌, length, take, drop, get_or, arith, length-drop, refl, sym, ap, ◌∙◌}
+use Rattle.std.proofs.Common.{◌≡◌, ℕ, Bool, true, false, List, [], ◌∷◌, ◌-◌, length, take, drop, get_or, slice_get, arith, length-drop, refl, sym, ap, ◌∙◌}
 use Rattle.std.specs.Prelude.{Option, Some, None, not, ◌&&◌, if◌then◌else◌, is_some}
 use Rattle.std.specs.Option.{option_map, option_and_then}
 use Rattle.std.specs.Borrow.{Bor}
@@ -91,3 +91,22 @@ IsDefinition-read [] name def d begins is e = cc
 IsDefinition-read (t ∷ ts) name def d begins is e =
     let free = (and_parts (is_of Ident t) (not (is_forbidden t.text)) (sym begins)).1 in
     rw is (ap (λ b. b && is_replacement def) free ∙ def_of-replacement ts def e)
+
+-- ## What a definition that is read has
+
+abbrev with_name : List ℕ → Def → List ℕ × Def
+with_name s def = (s, def)
+
+named_as : (s name : List ℕ) (def : Def) (o : Option Def) → option_map (with_name s) o ≡ Some (name, def) → (s ≡ name) × (o ≡ Some def)
+named_as s name def None e = cc
+named_as s name def (Some d) e = let pair : with_name s d ≡ with_name name def = cc in (ap (λ (p : List ℕ × Def). p.0) pair, ap (λ (p : List ℕ × Def). Some p.1) pair)
+
+-- it goes by the rules, and its name is spelled as the first token
+pub read_define-gives : (ts : List Tok) (name : List ℕ) (def : Def) → read_define ts ≡ Some (name, def) → IsDefinition name def × (option_map (λ (t : Tok). t.text) (slice_get ts 0) ≡ Some name)
+unfolding read_define
+read_define-gives [] name def e = cc
+read_define-gives (t ∷ ts) name def e = by (is_name t) refl e where
+  by : (b : Bool) → is_name t ≡ b → (if b then option_map (with_name t.text) (def_of ts) else None) ≡ Some (name, def)
+      → IsDefinition name def × (option_map (λ (t : Tok). t.text) (slice_get (t ∷ ts) 0) ≡ Some name)
+  by true begins e = let both = named_as t.text name def (def_of ts) e in (IsDefinition-read (t ∷ ts) name def t (sym begins) (sym both.0) both.1, ap Some both.0)
+  by false begins e = cc

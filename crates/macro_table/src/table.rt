@@ -41,6 +41,7 @@ impl Macros {
             slots: HashMap::new(alloc),
         };
         macros.set_built_in(b"__has_cpp_attribute", BuiltIn::HasAttribute)?;
+        macros.set_built_in(b"__has_include_next", BuiltIn::HasIncludeNext)?;
         macros.set_built_in(b"__has_include", BuiltIn::HasInclude)?;
         macros.set_built_in(b"__cplusplus", BuiltIn::Cplusplus)?;
         macros.set_built_in(b"__COUNTER__", BuiltIn::Counter)?;
@@ -69,6 +70,18 @@ impl Macros {
         ensures err { OnErr result (self.new ≡ self.old) }
     {
         self.set(name.as_slice(), def)
+    }
+
+    /// Gives the name a definition that others have too, in the place of an earlier one, and leaves all else. The name is
+    /// copied only where the table lacks it. Want of memory comes also where `Arc` refuses one more owner; it changes
+    /// nothing.
+    pub fn define_shared(&mut self, name: &[u8], def: &Arc<Def>) -> Result<(), NoMemory>
+        requires { IsDefinition name.now def.now.value }
+        ensures ok { OnOk result (macros_of self.new ≡ map.define (macros_of self.old) name.now def.now.value) }
+        ensures err { OnErr result (self.new ≡ self.old) }
+    {
+        let shared = Arc::try_clone(def)?;
+        self.set_shared(name, shared)
     }
 
     /// Takes the name's definition away, where it has one, and leaves the saved ones.
@@ -119,6 +132,15 @@ impl Macros {
         ensures err { OnErr result (self.new ≡ self.old) }
     {
         let shared = Arc::new(self.alloc, def)?;
+        self.set_shared(name, shared)
+    }
+
+    // Want of memory changes nothing.
+    fn set_shared(&mut self, name: &[u8], shared: Arc<Def>) -> Result<(), NoMemory>
+        requires { Fits name.now shared.value }
+        ensures ok { OnOk result (macros_of self.new ≡ map.define (macros_of self.old) name.now shared.value) }
+        ensures err { OnErr result (self.new ≡ self.old) }
+    {
         if let Some(slot) = self.slots.get_mut(name) {
             slot.define(shared);
             return Ok(());

@@ -66,9 +66,21 @@ pub(crate) fn is_forbidden(name: &[u8]) -> bool
 
 /// The operators of conditions that are spelled as identifiers ([cpp.cond]).
 fn is_operator_name(name: &[u8]) -> bool
-    ensures { result ≡ is_one_of ("defined" ∷ "__has_include" ∷ "__has_cpp_attribute" ∷ []) name.now }
+    ensures { result ≡ is_one_of ("defined" ∷ "__has_include" ∷ "__has_include_next" ∷ "__has_cpp_attribute" ∷ []) name.now }
 {
-    matches!(name, b"defined" | b"__has_include" | b"__has_cpp_attribute")
+    is_test_name(name) || is_further_test_name(name)
+}
+
+fn is_test_name(name: &[u8]) -> bool
+    ensures { result ≡ is_one_of ("defined" ∷ "__has_include" ∷ []) name.now }
+{
+    matches!(name, b"defined" | b"__has_include")
+}
+
+fn is_further_test_name(name: &[u8]) -> bool
+    ensures { result ≡ is_one_of ("__has_include_next" ∷ "__has_cpp_attribute" ∷ []) name.now }
+{
+    matches!(name, b"__has_include_next" | b"__has_cpp_attribute")
 }
 
 /// What stands for a variable part, or depends on one ([cpp.replace], [cpp.subst]).

@@ -1,11 +1,13 @@
 -- Records over lists that grow at their ends.
-use Rattle.std.proofs.Common.{◌≡◌, ℕ, ◌+◌, ◌≤◌, ◌≢◌, List, [], ◌∷◌, ◌++◌, All, refl, ap, sym, ◌∙◌, map, take, drop, length, length-append, length-drop, arith}
+use Rattle.std.proofs.Common.{◌≡◌, ℕ, ◌+◌, ◌≤◌, ◌≢◌, List, [], ◌∷◌, ◌++◌, All, refl, ap, sym, ◌∙◌, map, take, drop, get_or, length, length-append, length-drop, arith}
 use Rattle.std.proofs.lemmas.List.{take-append-le, drop-append-le, map-append, drop_at, take_all}
 use Rattle.std.proofs.lemmas.List.Elements.{All-head, All-tail, All-weaker, All-take, All-drop, All-append, All-push}
 use Rattle.scan_model.specs.Lines.{closed}
 use Rattle.reducer.specs.declared.flat.TokRecord.{TokRecord}
 use Rattle.reducer.specs.declared.flat.LineRecord.{LineRecord}
-use Rattle.reducer.specs.FlatLines.{tok_of, line_of, lines_of, IsCut, HasToks, AreWithin}
+use Rattle.scan_model.specs.declared.command.Dialect.TheVariants.{Cxx23}
+use Rattle.scan_model.specs.Skips.{directive_in}
+use Rattle.reducer.specs.FlatLines.{tok_of, line_of, lines_of, IsCut, HasToks, HasDirective, AreWithin}
 
 -- what is cut out stays where more is added behind
 cut_grown : {X : Type 0} (n start : ℕ) (xs more : List X) → start + n ≤ length xs → take n (drop start (xs ++ more)) ≡ take n (drop start xs)
@@ -48,6 +50,7 @@ pub within_grown : (spelled more : List ℕ) (toks further : List TokRecord) (ls
 within_grown spelled more toks further ls w all = record {
   cut = All-append (IsCut (spelled ++ more)) toks further (cut_in_more spelled more toks w.cut) all;
   held = All-weaker (HasToks toks) (HasToks (toks ++ further)) (λ l h. omega (arith, length-append toks further)) ls w.held;
+  named = λ k d h. let l = get_or ls k d in w.named k d h ∙ ap (λ line. directive_in Cxx23 line.toks) (sym (line_grown spelled more toks further l w.cut (w.held k d h)));
 }
 
 -- ## A line at the end
@@ -57,13 +60,16 @@ closed_toks : (spelled : List ℕ) (line last : ℕ) (rs : List TokRecord) → r
 closed_toks spelled line last [] some = absurd (some refl)
 closed_toks spelled line last (r ∷ rs) some = refl
 
+last_records : (toks further : List TokRecord) (l : LineRecord) → l.start ≡ length toks → l.count ≡ length further → take l.count (drop l.start (toks ++ further)) ≡ further
+last_records toks further l start count = ap (take l.count) (drop_at toks further l.start (sym start)) ∙ take_all l.count further (omega arith)
+
 -- the line of all further tokens is added
 pub lines_closed : (spelled more : List ℕ) (toks further : List TokRecord) (ls : List LineRecord) (l : LineRecord) (last : ℕ) → AreWithin spelled toks ls → further ≢ []
     → l.start ≡ length toks → l.count ≡ length further → l.next ≡ last + 1
     → lines_of (spelled ++ more) (toks ++ further) (ls ++ l ∷ []) ≡ lines_of spelled toks ls ++ closed (map (tok_of (spelled ++ more) l.line) further) last
 lines_closed spelled more toks further ls l last w some start count next =
     let all = spelled ++ more in
-    let rs : take l.count (drop l.start (toks ++ further)) ≡ further = ap (take l.count) (drop_at toks further l.start (sym start)) ∙ take_all l.count further (omega arith) in
+    let rs = last_records toks further l start count in
     let line : line_of all (toks ++ further) l ≡ record { toks = map (tok_of all l.line) further; line = l.line; next = last + 1 } =
     ap (λ ts. record { toks = map (tok_of all l.line) ts; line = l.line; next = l.next }) rs ∙ ap (λ n. record { toks = map (tok_of all l.line) further; line = l.line; next = n }) next in
     map-append (line_of all (toks ++ further)) ls (l ∷ [])
@@ -72,9 +78,11 @@ lines_closed spelled more toks further ls l last w some start count next =
     ∙ ap (λ x. lines_of spelled toks ls ++ x) (sym (closed_toks all l.line last further some))
 
 pub within_closed : (spelled more : List ℕ) (toks further : List TokRecord) (ls : List LineRecord) (l : LineRecord) → AreWithin spelled toks ls → All (IsCut (spelled ++ more)) further
-    → l.start ≡ length toks → l.count ≡ length further → AreWithin (spelled ++ more) (toks ++ further) (ls ++ l ∷ [])
-within_closed spelled more toks further ls l w all start count =
+    → l.start ≡ length toks → l.count ≡ length further → l.directive ≡ directive_in Cxx23 (map (tok_of (spelled ++ more) l.line) further) → AreWithin (spelled ++ more) (toks ++ further) (ls ++ l ∷ [])
+within_closed spelled more toks further ls l w all start count directive =
     let grown = within_grown spelled more toks further ls w all in record {
       cut = grown.cut;
       held = All-push (HasToks (toks ++ further)) ls l grown.held (omega (arith, length-append toks further));
+      named = All-push (HasDirective (spelled ++ more) (toks ++ further)) ls l grown.named
+          (directive ∙ ap (λ rs. directive_in Cxx23 (map (tok_of (spelled ++ more) l.line) rs)) (sym (last_records toks further l start count)));
     }

@@ -57,7 +57,7 @@ text_newline text before s h e =
 pub after_blanks-twice : (s : List Spot) → after_blanks (after_blanks s) ≡ after_blanks s
 after_blanks-twice s = after_blanks-none (after_blanks s) (after_blanks-stops s)
 
-same_token : (text : List ℕ) (before : List Tok) (s : List Spot) → next_token text before (after_blanks s) ≡ next_token text before s
+pub same_token : (text : List ℕ) (before : List Tok) (s : List Spot) → next_token text before (after_blanks s) ≡ next_token text before s
 unfolding next_token
 same_token text before s = ap (token_at text before) (after_blanks-twice s)
 

@@ -9,7 +9,12 @@ pub mod PassLemmas
 pub mod TurnLemmas
 pub mod WordLemmas
 pub mod FrontLemmas
+pub mod RoomLemmas
+pub mod DirectiveLemmas
 pub mod FlatLemmas
 pub mod OpenLemmas
 pub mod PlaceLemmas
 pub mod ReadLemmas
+pub mod SkipLemmas
+pub mod TableLemmas
+pub mod DefinitionLemmas

@@ -11,6 +11,8 @@ use Rattle.pp_lexer.specs.Reads.{is_nil, line_here}
 use Rattle.reducer.specs.declared.flat.TokRecord.{TokRecord}
 use Rattle.reducer.specs.declared.flat.LineRecord.{LineRecord}
 use Rattle.reducer.specs.declared.open_lines.OpenLines.{OpenLines}
+use Rattle.scan_model.specs.declared.command.Dialect.TheVariants.{Cxx23}
+use Rattle.scan_model.specs.Skips.{directive_in}
 use Rattle.reducer.specs.FlatLines.{tok_of, lines_of, IsCut, AreWithin, AreKept}
 use Rattle.reducer.specs.ReducedLines.{AreReduced}
 use Rattle.reducer.specs.Building.{kept_lines, open_toks, IsSound, HasToken, HasLines}
@@ -177,6 +179,7 @@ pub record Keeps (b after : OpenLines) (l : LineRecord) : Type 0 where
   pub line_is : l.line ≡ b.line
   pub start_is : l.start ≡ b.kept_toks
   pub len_is : l.count ≡ length b.toks.items - b.kept_toks
+  pub directive_is : l.directive ≡ directive_in Cxx23 (open_toks b)
 
 all_spelled : (b after : OpenLines) (l : LineRecord) → Keeps b after l → take after.kept_bytes after.spelled.items ≡ take b.kept_bytes b.spelled.items ++ drop b.kept_bytes b.spelled.items
 all_spelled b after l k =
@@ -199,11 +202,14 @@ cut_of_whole : (b : OpenLines) → IsSound b → All (IsCut (take b.kept_bytes b
 cut_of_whole b s = subst (λ xs. All (IsCut xs) (drop b.kept_toks b.toks.items)) (sym (take-append-drop b.kept_bytes b.spelled.items)) s.cut
 
 sound_kept : (b after : OpenLines) (l : LineRecord) → IsSound b → Keeps b after l → IsSound after
+unfolding open_toks
 sound_kept b after l s k =
     let bytes_in : length after.spelled.items ≡ length b.spelled.items = ap length k.spelled_is in
     let toks_in : length after.toks.items ≡ length b.toks.items = ap length k.toks_is in
     let whole = within_closed (take b.kept_bytes b.spelled.items) (drop b.kept_bytes b.spelled.items) (take b.kept_toks b.toks.items) (drop b.kept_toks b.toks.items) b.lines.items l s.kept
-    (cut_of_whole b s) (record_start b after l s k) (record_count b after l k) in
+    (cut_of_whole b s) (record_start b after l s k) (record_count b after l k)
+    (k.directive_is ∙ ap (λ n. directive_in Cxx23 (map (tok_of b.spelled.items n) (drop b.kept_toks b.toks.items))) (sym k.line_is)
+    ∙ ap (λ xs. directive_in Cxx23 (map (tok_of xs l.line) (drop b.kept_toks b.toks.items))) (sym (take-append-drop b.kept_bytes b.spelled.items))) in
     record {
       bytes = omega (arith, bytes_in, k.bytes_is);
       toks = omega (arith, toks_in, k.count_is);
@@ -228,7 +234,7 @@ lines_kept b after l last s some k next =
     ∙ ap (λ n. lines_of xs ts b.lines.items ++ closed (map (tok_of b.spelled.items n) further) last) k.line_is
 
 pub has_lines : (b after : OpenLines) (l : LineRecord) (last : ℕ) → IsSound b → open_toks b ≢ [] → Keeps b after l → l.next ≡ last + 1 → HasLines b after (closed (open_toks b) last)
-has_lines b after l last s some k next = record { sound = sound_kept b after l s k; added = lines_kept b after l last s some k next }
+has_lines b after l last s some k next = record { sound = sound_kept b after l s k; added = lines_kept b after l last s some k next; stay = (k.spelled_is, k.toks_is) }
 
 -- ## At the end of the text
 

@@ -13,7 +13,7 @@ use Rattle.reducer.proofs.TextLemmas.{wants_header-text}
 use Rattle.reducer.proofs.KeptLemmas.{text_token, text_newline, kept_from-token, kept_from-blanks, after_blanks-twice}
 use Rattle.reducer.proofs.WordLemmas.{begins_text-tok, begins_text-some}
 
-wants_header-nil : wants_header [] ≡ false
+pub wants_header-nil : wants_header [] ≡ false
 unfolding wants_header
 wants_header-nil = refl
 

@@ -1,5 +1,6 @@
 -- What tests of tokens by their places tell of a line.
 use Rattle.std.proofs.Common.{◌≡◌, ℕ, zero, suc, ◌+◌, ◌-◌, ◌≤◌, Bool, true, false, ◌&&◌, ◌||◌, List, [], ◌∷◌, refl, ap, sym, ◌∙◌, drop, length, arith}
+use Prim.Native.String.{String}
 use Rattle.scan_model.specs.declared.token.Tok.{Tok}
 use Rattle.scan_model.specs.Spelling.{spells}
 use Rattle.scan_model.specs.Tokens.{are, wants_header}
@@ -49,82 +50,88 @@ two_begin (t ∷ u ∷ v ∷ ts) a b c h pa pb pc = absurd (omega arith)
 
 -- ## Header names
 
-header_after_two : (s d n i e m : Bool) → (((s || d) && n) || (e && m)) ≡ ((((s && (n && true)) || (d && (n && true))) || (i && false)) || (e && (m && true)))
-header_after_two true d true i e m = refl
-header_after_two true d false i e m = no_first d i e m where
-  no_first : (d i e m : Bool) → (e && m) ≡ (((d && false) || (i && false)) || (e && (m && true)))
-  no_first true true true true = refl
-  no_first true true true false = refl
-  no_first true true false m = refl
-  no_first true false true true = refl
-  no_first true false true false = refl
-  no_first true false false m = refl
-  no_first false true true true = refl
-  no_first false true true false = refl
-  no_first false true false m = refl
-  no_first false false true true = refl
-  no_first false false true false = refl
-  no_first false false false m = refl
-header_after_two false true true i e m = refl
-header_after_two false true false true true true = refl
-header_after_two false true false true true false = refl
-header_after_two false true false true false m = refl
-header_after_two false true false false true true = refl
-header_after_two false true false false true false = refl
-header_after_two false true false false false m = refl
-header_after_two false false n true true true = refl
-header_after_two false false n true true false = refl
-header_after_two false false n true false m = refl
-header_after_two false false n false true true = refl
-header_after_two false false n false true false = refl
-header_after_two false false n false false m = refl
+sharp_then : (s d n : Bool) → ((s || d) && n) ≡ ((s && (n && true)) || (d && (n && true)))
+sharp_then true true true = refl
+sharp_then true true false = refl
+sharp_then true false true = refl
+sharp_then true false false = refl
+sharp_then false true true = refl
+sharp_then false true false = refl
+sharp_then false false n = refl
 
-pub two_before_header : (ts : List Tok) (a b c d : Bool) → length ts ≡ 2 → a ≡ begins_with_sharp ts → b ≡ at_tok (λ t. spells "include" t.text) ts 1
-    → c ≡ at_tok (λ t. spells "export" t.text) ts 0 → d ≡ at_tok (λ t. spells "import" t.text) ts 1 → ((a && b) || (c && d)) ≡ are_before_header ts
-two_before_header [] a b c d h pa pb pc pd = absurd (omega arith)
-two_before_header (t ∷ []) a b c d h pa pb pc pd = absurd (omega arith)
-two_before_header (t ∷ u ∷ []) a b c d h pa pb pc pd = rw (pa, pb, pc, pd)
-    (header_after_two (spells "#" t.text) (spells "%:" t.text) (spells "include" u.text) (spells "import" t.text) (spells "export" t.text) (spells "import" u.text))
-two_before_header (t ∷ u ∷ v ∷ ts) a b c d h pa pb pc pd = absurd (omega arith)
+or_none : (y i : Bool) → y ≡ (y || (i && false))
+or_none true i = refl
+or_none false true = refl
+or_none false false = refl
+
+all_true : (m : Bool) → m ≡ (m && true)
+all_true true = refl
+all_true false = refl
+
+header_after_two : (s d n x i e m : Bool) → ((((s || d) && n) || ((s || d) && x)) || (e && m))
+    ≡ (((((s && (n && true)) || (d && (n && true))) || ((s && (x && true)) || (d && (x && true)))) || (i && false)) || (e && (m && true)))
+header_after_two s d n x i e m =
+    let first = sharp_then s d n in
+    let second = sharp_then s d x in
+    let last = all_true m in
+    (λ k. (first k || second k) || (e && last k))
+    ∙ ap (λ y. y || (e && (m && true))) (or_none (((s && (n && true)) || (d && (n && true))) || ((s && (x && true)) || (d && (x && true)))) i)
+
+pub two_before_header : (ts : List Tok) (a b x c d : Bool) → length ts ≡ 2 → a ≡ begins_with_sharp ts → b ≡ at_tok (λ t. spells "include" t.text) ts 1
+    → x ≡ at_tok (λ t. spells "include_next" t.text) ts 1 → c ≡ at_tok (λ t. spells "export" t.text) ts 0 → d ≡ at_tok (λ t. spells "import" t.text) ts 1
+    → (((a && b) || (a && x)) || (c && d)) ≡ are_before_header ts
+two_before_header [] a b x c d h pa pb px pc pd = absurd (omega arith)
+two_before_header (t ∷ []) a b x c d h pa pb px pc pd = absurd (omega arith)
+two_before_header (t ∷ u ∷ []) a b x c d h pa pb px pc pd = rw (pa, pb, px, pc, pd)
+    (header_after_two (spells "#" t.text) (spells "%:" t.text) (spells "include" u.text) (spells "include_next" u.text) (spells "import" t.text) (spells "export" t.text) (spells "import" u.text))
+two_before_header (t ∷ u ∷ v ∷ ts) a b x c d h pa pb px pc pd = absurd (omega arith)
 
 -- the last two tokens, of which the first has this place
-last_two : (k : ℕ) (ts : List Tok) → length ts ≡ suc (suc k)
-    → are ("__has_include" ∷ "(" ∷ []) (drop k ts) ≡ (at_tok (λ t. spells "__has_include" t.text) ts k && (at_tok (λ t. spells "(" t.text) ts (suc k) && true))
-last_two k [] h = absurd (omega arith)
-last_two zero (t ∷ []) h = absurd (omega arith)
-last_two zero (t ∷ u ∷ []) h = refl
-last_two zero (t ∷ u ∷ v ∷ ts) h = absurd (omega arith)
-last_two (suc k) (t ∷ ts) h = last_two k ts (omega arith)
-
-one_ends : (a : Bool) → false ≡ (a && false)
-one_ends true = refl
-one_ends false = refl
+last_two : (word : String) (k : ℕ) (ts : List Tok) → length ts ≡ suc (suc k)
+    → are (word ∷ "(" ∷ []) (drop k ts) ≡ (at_tok (λ t. spells word t.text) ts k && (at_tok (λ t. spells "(" t.text) ts (suc k) && true))
+last_two word k [] h = absurd (omega arith)
+last_two word zero (t ∷ []) h = absurd (omega arith)
+last_two word zero (t ∷ u ∷ []) h = refl
+last_two word zero (t ∷ u ∷ v ∷ ts) h = absurd (omega arith)
+last_two word (suc k) (t ∷ ts) h = last_two word k ts (omega arith)
 
 pub few_end : (ts : List Tok) → length ts ≤ 1 → false ≡ ends_in_test ts
 few_end [] h = refl
-few_end (t ∷ []) h = one_ends (spells "__has_include" t.text)
+few_end (t ∷ []) h = sym (no_second (spells "__has_include" t.text) (spells "__has_include_next" t.text))
 few_end (t ∷ u ∷ ts) h = absurd (omega arith)
 
-by_last : (a b : Bool) → b ≡ false → (a && (b && true)) ≡ false
-by_last true b e = rw e refl
-by_last false b e = refl
+by_last : (a b p : Bool) → p ≡ false → ((a && (p && true)) || (b && (p && true))) ≡ false
+by_last a b p e = rw e (no_second a b)
 
-and_true : (a b : Bool) → b ≡ true → (a && (b && true)) ≡ a
-and_true true b e = rw e refl
-and_true false b e = refl
+and_true : (a p : Bool) → p ≡ true → (a && (p && true)) ≡ a
+and_true true p e = rw e refl
+and_true false p e = refl
+
+one_ends_at : (word : String) (ts : List Tok) → 2 ≤ length ts
+    → are (word ∷ "(" ∷ []) (drop (length ts - 2) ts) ≡ (at_tok (λ t. spells word t.text) ts (length ts - 2) && (at_tok (λ t. spells "(" t.text) ts (length ts - 1) && true))
+one_ends_at word ts h =
+    let next : suc (length ts - 2) ≡ length ts - 1 = omega arith in
+    last_two word (length ts - 2) ts (omega arith) ∙ ap (λ k. at_tok (λ t. spells word t.text) ts (length ts - 2) && (at_tok (λ t. spells "(" t.text) ts k && true)) next
 
 ends_at : (ts : List Tok) → 2 ≤ length ts
-    → ends_in_test ts ≡ (at_tok (λ t. spells "__has_include" t.text) ts (length ts - 2) && (at_tok (λ t. spells "(" t.text) ts (length ts - 1) && true))
+    → ends_in_test ts ≡ ((at_tok (λ t. spells "__has_include" t.text) ts (length ts - 2) && (at_tok (λ t. spells "(" t.text) ts (length ts - 1) && true))
+    || (at_tok (λ t. spells "__has_include_next" t.text) ts (length ts - 2) && (at_tok (λ t. spells "(" t.text) ts (length ts - 1) && true)))
 ends_at ts h =
-    let next : suc (length ts - 2) ≡ length ts - 1 = omega arith in
-    last_two (length ts - 2) ts (omega arith) ∙ ap (λ k. at_tok (λ t. spells "__has_include" t.text) ts (length ts - 2) && (at_tok (λ t. spells "(" t.text) ts k && true)) next
+    let plain = one_ends_at "__has_include" ts h in
+    let next = one_ends_at "__has_include_next" ts h in
+    λ k. plain k || next k
 
 pub other_end : (ts : List Tok) → 2 ≤ length ts → at_tok (λ t. spells "(" t.text) ts (length ts - 1) ≡ false → false ≡ ends_in_test ts
-other_end ts h e = sym (ends_at ts h ∙ by_last (at_tok (λ t. spells "__has_include" t.text) ts (length ts - 2)) _ e)
+other_end ts h e = sym (ends_at ts h ∙ by_last (at_tok (λ t. spells "__has_include" t.text) ts (length ts - 2)) (at_tok (λ t. spells "__has_include_next" t.text) ts (length ts - 2)) _ e)
 
-pub test_end : (ts : List Tok) (a : Bool) → 2 ≤ length ts → at_tok (λ t. spells "(" t.text) ts (length ts - 1) ≡ true
-    → a ≡ at_tok (λ t. spells "__has_include" t.text) ts (length ts - 2) → a ≡ ends_in_test ts
-test_end ts a h e pa = pa ∙ sym (ends_at ts h ∙ and_true (at_tok (λ t. spells "__has_include" t.text) ts (length ts - 2)) _ e)
+pub test_end : (ts : List Tok) (a b : Bool) → 2 ≤ length ts → at_tok (λ t. spells "(" t.text) ts (length ts - 1) ≡ true
+    → a ≡ at_tok (λ t. spells "__has_include" t.text) ts (length ts - 2) → b ≡ at_tok (λ t. spells "__has_include_next" t.text) ts (length ts - 2) → (a || b) ≡ ends_in_test ts
+test_end ts a b h e pa pb =
+    let plain = and_true (at_tok (λ t. spells "__has_include" t.text) ts (length ts - 2)) _ e in
+    let next = and_true (at_tok (λ t. spells "__has_include_next" t.text) ts (length ts - 2)) _ e in
+    let both : (at_tok (λ t. spells "__has_include" t.text) ts (length ts - 2) || at_tok (λ t. spells "__has_include_next" t.text) ts (length ts - 2)) ≡ ends_in_test ts =
+    sym (ends_at ts h ∙ (λ k. plain k || next k)) in
+    (λ k. pa k || pb k) ∙ both
 
 with_test : (b c t : Bool) → t ≡ true → (b || c) ≡ (b || (c && t))
 with_test b c t e = rw e (same b c) where

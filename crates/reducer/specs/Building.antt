@@ -1,8 +1,10 @@
 -- The lines that are kept so far, and the tokens of the line that is being read.
-use Rattle.std.specs.Prelude.{◌≡◌, ◌≤◌, List, [], ◌∷◌, ◌++◌, All, map, take, drop, length}
+use Rattle.std.specs.Prelude.{◌≡◌, ◌≤◌, ℕ, List, [], ◌∷◌, ◌++◌, All, map, take, drop, length}
 use Rattle.scan_model.specs.declared.token.Tok.{Tok}
 use Rattle.scan_model.specs.declared.token.Line.{Line}
 use Rattle.reducer.specs.declared.open_lines.OpenLines.{OpenLines}
+use Rattle.scan_model.specs.Spliced.{Spot}
+use Rattle.reducer.specs.Placed.{place_in}
 use Rattle.reducer.specs.FlatLines.{tok_of, lines_of, IsCut, AreWithin}
 
 -- the lines that have ended: what is cut out of the kept fronts of the lists
@@ -20,6 +22,11 @@ pub record IsSound (b : OpenLines) : Type 0 where
   pub kept : AreWithin (take b.kept_bytes b.spelled.items) (take b.kept_toks b.toks.items) b.lines.items
   pub cut : All (IsCut b.spelled.items) (drop b.kept_toks b.toks.items)
 
+-- the lists have no more elements than bytes of the text are read, which leaves these spots
+pub record HasRoom (b : OpenLines) (text : List ℕ) (left : List Spot) : Type 0 where
+  pub bytes : length b.spelled.items ≤ place_in (length text) left
+  pub toks : length b.toks.items ≤ place_in (length text) left
+
 -- the token is added to the open line, and the lines stay
 pub record HasToken (before after : OpenLines) (t : Tok) : Type 0 where
   pub sound : IsSound after
@@ -30,3 +37,4 @@ pub record HasToken (before after : OpenLines) (t : Tok) : Type 0 where
 pub record HasLines (before after : OpenLines) (more : List Line) : Type 0 where
   pub sound : IsSound after
   pub added : kept_lines after ≡ kept_lines before ++ more
+  pub stay : (after.spelled.items ≡ before.spelled.items) × (after.toks.items ≡ before.toks.items)

@@ -24,15 +24,15 @@ begins_with_sharp ts = at_tok (λ t. spells "#" t.text) ts 0 || at_tok (λ t. sp
 
 -- these tokens, and no further ones, are followed by a header name
 abbrev pub are_before_header : List Tok → Bool
-are_before_header ts = are_directive ("include" ∷ []) ts || are ("import" ∷ []) ts || are ("export" ∷ "import" ∷ []) ts
+are_before_header ts = are_directive ("include" ∷ []) ts || are_directive ("include_next" ∷ []) ts || are ("import" ∷ []) ts || are ("export" ∷ "import" ∷ []) ts
 
 -- the tokens are those of a condition
 abbrev pub begins_condition : List Tok → Bool
 begins_condition ts = let opening = take 2 ts in are_directive ("if" ∷ []) opening || are_directive ("elif" ∷ []) opening
 
--- `__has_include (` are the last two tokens
+-- `__has_include (` or `__has_include_next (` are the last two tokens
 abbrev pub ends_in_test : List Tok → Bool
-ends_in_test ts = are ("__has_include" ∷ "(" ∷ []) (drop (length ts - 2) ts)
+ends_in_test ts = are ("__has_include" ∷ "(" ∷ []) (drop (length ts - 2) ts) || are ("__has_include_next" ∷ "(" ∷ []) (drop (length ts - 2) ts)
 
 -- these tokens are too few to tell: with further ones they may begin a directive
 abbrev pub may_begin : List Tok → Bool

@@ -1,9 +1,14 @@
 -- Lines and tokens as records, which say where their parts lie in the lists of all tokens and of all spellings.
-use Rattle.std.specs.Prelude.{ℕ, ◌+◌, ◌≤◌, List, All, map, take, drop, length}
+use Rattle.std.specs.Prelude.{◌≡◌, ℕ, ◌+◌, ◌≤◌, List, All, map, take, drop, length}
+use Rattle.scan_model.specs.declared.command.Dialect.{Dialect}
+use Rattle.scan_model.specs.declared.command.Dialect.TheVariants.{Cxx23}
+use Rattle.scan_model.specs.declared.directive.Directive.{Directive}
 use Rattle.scan_model.specs.declared.token.Tok.{Tok}
 use Rattle.scan_model.specs.declared.token.Line.{Line}
 use Rattle.reducer.specs.declared.flat.TokRecord.{TokRecord}
 use Rattle.reducer.specs.declared.flat.LineRecord.{LineRecord}
+use Rattle.scan_model.specs.Skips.{directive_in}
+use Rattle.reducer.specs.DirectiveWords.{in_dialect}
 use Rattle.reducer.specs.ReducedLines.{AreReduced}
 
 -- the token of a record, its spelling cut out of all spellings
@@ -27,10 +32,19 @@ IsCut spelled r = r.start + r.len ≤ length spelled
 abbrev pub HasToks : List TokRecord → LineRecord → Type 0
 HasToks toks l = l.start + l.count ≤ length toks
 
--- all records lie in the lists
+-- the record has its line's directive, as C++23 has it
+abbrev pub HasDirective : List ℕ → List TokRecord → LineRecord → Type 0
+HasDirective spelled toks l = l.directive ≡ directive_in Cxx23 (line_of spelled toks l).toks
+
+-- the lines' directives, as the dialect has them
+abbrev pub directives : Dialect → List LineRecord → List Directive
+directives dialect lines = map (λ l. in_dialect dialect l.directive) lines
+
+-- all records lie in the lists, and those of lines have their directives
 pub record AreWithin (spelled : List ℕ) (toks : List TokRecord) (lines : List LineRecord) : Type 0 where
   pub cut : All (IsCut spelled) toks
   pub held : All (HasToks toks) lines
+  pub named : All (HasDirective spelled toks) lines
 
 -- and the lines are such as a reduced text keeps
 pub record AreKept (spelled : List ℕ) (toks : List TokRecord) (lines : List LineRecord) : Type 0 where

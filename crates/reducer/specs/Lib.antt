@@ -2,7 +2,12 @@ pub mod ReducedLines
 pub mod Answers
 pub mod Views
 pub mod Directives
+pub mod DirectiveWords
+pub mod Placed
 pub mod FlatLines
+pub mod SkipTable
+pub mod Definitions
+pub mod Indexed
 pub mod Building
 pub mod TokenTests
 pub mod ReadToken

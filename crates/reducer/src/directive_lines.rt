@@ -1,12 +1,19 @@
-ghost use Rattle.std.specs.Prelude.{◌≡◌, ◌≤◌, nat_eq, drop};
+ghost use Rattle.std.specs.Prelude.{◌≡◌, ◌≤◌, nat_eq, [], ◌∷◌, drop};
 ghost use lib.Pointwise.{pointwise};
+ghost use Rattle.scan_model.specs.Skips.{directive_in};
+ghost use Rattle.scan_model.specs.Directives.{directive_of};
+ghost use Rattle.scan_model.specs.TokenTests.{is_of};
+ghost use Rattle.reducer.specs.Views.{view};
 ghost use Rattle.scan_model.specs.Lines.{is_module_line, begins_directive};
 ghost use Rattle.reducer.specs.TokenTests.{at_tok};
 ghost use Rattle.reducer.specs.Building.{open_toks, IsSound};
 ghost use Rattle.reducer.specs.Directives.{begins_with_sharp, makes_import, makes_module, may_begin, is_text};
 
+use crate::TokView;
+use crate::directive_word::directive_numbered;
 use crate::open_lines::OpenLines;
-use scan_model::Kind;
+use scan_model::{Dialect, Directive, Kind};
+use word_table::directive_word;
 
 /// Whether the token of this place is there, and spelled so.
 pub fn is_word(lines: &OpenLines, i: usize, word: &[u8]) -> bool
@@ -100,4 +107,34 @@ pub fn is_text(lines: &OpenLines) -> bool
     ensures { result ≡ is_text (open_toks lines.now) }
 {
     !begins_directive(lines) && !may_begin(lines)
+}
+
+/// What a line of the open tokens asks for in C++23; nothing where it doesn't begin with `#` ([cpp.pre]).
+pub fn line_directive(lines: &OpenLines) -> Directive
+    requires { IsSound lines.now }
+    ensures { result ≡ directive_in Dialect.Cxx23 (open_toks lines.now) }
+{
+    if !begins_with_sharp(lines) {
+        return Directive::Nothing;
+    }
+    match lines.get(1) {
+        Some(word) => directive_of(word),
+        None => Directive::Nothing,
+    }
+}
+
+// What a line asks for whose first token after `#` is this one.
+fn directive_of(word: TokView<'_>) -> Directive
+    ensures { result ≡ directive_of Dialect.Cxx23 (view word.entry ∷ []) }
+{
+    if is_number(word) {
+        return Directive::Nothing;
+    }
+    directive_numbered(directive_word(word.text))
+}
+
+fn is_number(tok: TokView<'_>) -> bool
+    ensures { result ≡ is_of Kind.Number (view tok.entry) }
+{
+    matches!(tok.kind, Kind::Number)
 }

@@ -1,4 +1,4 @@
-ghost use Rattle.std.specs.Prelude.{◌≡◌, ◌+◌, [], ◌∷◌, ◌++◌, length, IfOk, OnOk};
+ghost use Rattle.std.specs.Prelude.{◌≡◌, ◌+◌, ◌<◌, ◌≤◌, ◌^◌, [], ◌∷◌, ◌++◌, length, IfOk, OnOk};
 ghost use Rattle.line_splice.specs.Cursor.{text_of, rest};
 ghost use Rattle.pp_lexer.specs.Lexemes.{IsSpelled, spelling_of};
 ghost use Rattle.reducer.specs.FlatLines.{tok_of, IsCut};
@@ -7,7 +7,7 @@ ghost use Rattle.reducer.specs.Views.{view};
 use crate::TokView;
 use line_splice::Cursor;
 use pp_lexer::{Found, push_spelling};
-use scan_model::{Kind, NoMemory};
+use scan_model::{Directive, Kind, NoMemory};
 
 /// A token of a line, by where its spelling lies in the list of all spellings.
 #[derive(Clone, Copy)]
@@ -18,13 +18,14 @@ pub struct TokRecord {
     pub len: u32,
 }
 
-/// A line, by where its tokens lie in the list of all tokens.
+/// A line, by where its tokens lie in the list of all tokens, and its directive as C++23 has it.
 #[derive(Clone, Copy)]
 pub struct LineRecord {
     pub line: u32,
     pub next: u32,
     pub start: u32,
     pub count: u32,
+    pub directive: Directive,
 }
 
 /// The token of a record, of a line of that number.
@@ -42,17 +43,12 @@ pub fn shown_token<'a>(spelled: &'a [u8], tok: TokRecord, line: u32) -> TokView<
     }
 }
 
-/// A place in a list, in the four bytes in which places are kept. `Err` is want of memory, and comes where the list is too
-/// long for them. The lists of a text of 32 MiB are shorter, as no token is spelled by more bytes than it takes of the
-/// text; that isn't proved.
-pub fn as_u32(n: usize) -> Result<u32, NoMemory>
-    ensures { IfOk result (λ m. m ≡ n) }
+/// A place in a list, in the four bytes in which places are kept.
+pub fn as_u32(n: usize) -> u32
+    requires { n < 2 ^ 32 }
+    ensures { result ≡ n }
 {
-    if n <= u32::MAX as usize {
-        Ok(n as u32)
-    } else {
-        Err(NoMemory)
-    }
+    n as u32
 }
 
 /// Adds the spelling of the token that was found between the two cursors over the text. The answer is where it
@@ -67,6 +63,7 @@ pub fn push_cut(
     requires from { text_of from.now ≡ text.now }
     requires to { text_of to.now ≡ text.now }
     requires spelling { IsSpelled text.now found (rest from.now) (rest to.now) }
+    requires room { length spelled.old.items + length (spelling_of text.now found.spelling (rest from.now) (rest to.now)) ≤ 33554433 }
     ensures grown { OnOk result (spelled.new.items ≡ spelled.old.items ++ spelling_of text.now found.entry.spelling (rest from.now) (rest to.now)) }
     ensures start { IfOk result (λ cut. cut.0 ≡ length spelled.old.items) }
     ensures len { IfOk result (λ cut. cut.1 ≡ length (spelling_of text.now found.entry.spelling (rest from.now) (rest to.now))) }
@@ -74,7 +71,7 @@ pub fn push_cut(
     let start = spelled.len();
     push_spelling(spelled, text, from, found, to)?;
     let len = spelled.len() - start;
-    Ok((as_u32(start)?, as_u32(len)?))
+    Ok((as_u32(start), as_u32(len)))
 }
 
 /// Adds a token at the end. `Err` is want of memory.

@@ -14,7 +14,9 @@ fn are_before_header(lines: &OpenLines) -> bool
     match lines.count() {
         1 => is_word(lines, 0, b"import"),
         2 => {
-            (begins_with_sharp(lines) & is_word(lines, 1, b"include"))
+            let sharp = begins_with_sharp(lines);
+            (sharp & is_word(lines, 1, b"include"))
+                | (sharp & is_word(lines, 1, b"include_next"))
                 | (is_word(lines, 0, b"export") & is_word(lines, 1, b"import"))
         }
         _ => false,
@@ -39,11 +41,11 @@ fn ends_in_test(lines: &OpenLines) -> bool
     if !is_word(lines, count - 1, b"(") {
         return false;
     }
-    is_word(lines, count - 2, b"__has_include")
+    is_word(lines, count - 2, b"__has_include") | is_word(lines, count - 2, b"__has_include_next")
 }
 
-/// Whether after the open tokens a header name is tried first ([lex.header]): after `#include`, after a leading `import`,
-/// with or without `export`, and after `__has_include (` in a condition.
+/// Whether after the open tokens a header name is tried first ([lex.header]): after `#include` and `#include_next`, after
+/// a leading `import`, with or without `export`, and after `__has_include (` and `__has_include_next (` in a condition.
 pub fn wants_header(lines: &OpenLines) -> bool
     requires { IsSound lines.now }
     ensures { result ≡ wants_header (open_toks lines.now) }

@@ -2,16 +2,20 @@
 #![tactic(auto)]
 
 mod answer;
+mod definitions;
 mod directive_lines;
+mod directive_word;
 mod flat;
 mod fronts;
 mod header_wanted;
 mod open_lines;
 mod reduced;
 mod reduction;
+mod skip_table;
+mod tables;
 
 pub use answer::Answer;
-pub use reduced::{LineHead, Reduced, TokView};
+pub use reduced::{Definition, LineHead, Reduced, TokView};
 pub use reduction::reduce;
 
 #[cfg(test)]

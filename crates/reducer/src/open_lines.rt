@@ -1,14 +1,16 @@
-ghost use Rattle.std.specs.Prelude.{◌≡◌, ◌≢◌, ◌≤◌, [], length, slice_get, OnOk, if◌then◌else◌};
+ghost use Rattle.std.specs.Prelude.{◌≡◌, ◌≢◌, ◌≤◌, ℕ, List, [], length, slice_get, OnOk, IfOk, if◌then◌else◌};
 ghost use Rattle.std.specs.Option.{option_map};
 ghost use Rattle.line_splice.specs.Cursor.{text_of, rest};
-ghost use Rattle.scan_model.specs.Spliced.{line_at};
+ghost use Rattle.scan_model.specs.Spliced.{Spot, line_at};
 ghost use Rattle.scan_model.specs.Lines.{closed};
 ghost use Rattle.pp_lexer.specs.Lexemes.{IsSpelled, spelling_of};
 ghost use Rattle.pp_lexer.specs.Reads.{is_nil, line_here};
-ghost use Rattle.reducer.specs.Building.{kept_lines, open_toks, IsSound, HasToken, HasLines};
+ghost use Rattle.reducer.specs.Building.{kept_lines, open_toks, IsSound, HasRoom, HasToken, HasLines};
+ghost use Rattle.reducer.specs.Placed.{TakesBytes};
 ghost use Rattle.reducer.specs.ReducedLines.{AreReduced};
 ghost use Rattle.reducer.specs.Views.{view};
 
+use crate::directive_lines::line_directive;
 use crate::flat::{LineRecord, TokRecord, as_u32, push_cut, push_line, push_tok, shown_token};
 use crate::{Reduced, TokView};
 use line_splice::Cursor;
@@ -40,6 +42,7 @@ impl OpenLines {
     pub fn new(alloc: Global) -> OpenLines
         ensures sound { IsSound result }
         ensures kept { kept_lines result ≡ [] }
+        ensures room { (text : List ℕ) (left : List Spot) → HasRoom result text left }
     {
         OpenLines {
             spelled: Vec::new(alloc),
@@ -93,7 +96,10 @@ impl OpenLines {
         requires from { text_of from.now ≡ text.now }
         requires to { text_of to.now ≡ text.now }
         requires spelling { IsSpelled text.now found (rest from.now) (rest to.now) }
-        ensures { OnOk result (HasToken self.old self.new (record {
+        requires room { HasRoom self.old text.now (rest from.now) }
+        requires taken { TakesBytes text.now (length (spelling_of text.now found.spelling (rest from.now) (rest to.now))) (rest from.now) (rest to.now) }
+        ensures room { OnOk result (HasRoom self.new text.now (rest to.now)) }
+        ensures token { OnOk result (HasToken self.old self.new (record {
           kind = found.entry.kind;
           text = spelling_of text.now found.entry.spelling (rest from.now) (rest to.now);
           space = space;
@@ -119,6 +125,8 @@ impl OpenLines {
         ensures sound { IsSound self.new }
         ensures kept { kept_lines self.new ≡ kept_lines self.old }
         ensures toks { open_toks self.new ≡ [] }
+        ensures bytes_shrink { length self.new.spelled.items ≤ length self.old.spelled.items }
+        ensures toks_shrink { length self.new.toks.items ≤ length self.old.toks.items }
     {
         self.spelled.truncate(self.kept_bytes);
         self.toks.truncate(self.kept_toks);
@@ -128,14 +136,19 @@ impl OpenLines {
     pub fn keep_line(&mut self, last: u32) -> Result<(), NoMemory>
         requires sound { IsSound self.old }
         requires some { open_toks self.old ≢ [] }
+        requires few { length self.old.toks.items ≤ 33554433 }
         requires last { last ≤ 33554433 }
         ensures { OnOk result (HasLines self.old self.new (closed (open_toks self.old) last)) }
     {
+        let directive = line_directive(self);
+        let start = as_u32(self.kept_toks);
+        let count = as_u32(self.toks.len() - self.kept_toks);
         let line = LineRecord {
             line: self.line,
             next: last + 1,
-            start: as_u32(self.kept_toks)?,
-            count: as_u32(self.toks.len() - self.kept_toks)?,
+            start,
+            count,
+            directive,
         };
         push_line(&mut self.lines, line)?;
         self.kept_bytes = self.spelled.len();
@@ -143,11 +156,11 @@ impl OpenLines {
         Ok(())
     }
 
-    /// The lines, without the open one.
-    pub fn into_reduced(self) -> Reduced
+    /// The lines, without the open one. `Err` is want of memory.
+    pub fn into_reduced(self, alloc: Global) -> Result<Reduced, NoMemory>
         requires sound { IsSound self }
         requires reduced { AreReduced (kept_lines self) }
-        ensures { result ≡ kept_lines self }
+        ensures { IfOk result (λ reduced. reduced ≡ kept_lines self) }
     {
         let OpenLines {
             mut spelled,
@@ -159,6 +172,6 @@ impl OpenLines {
         } = self;
         spelled.truncate(kept_bytes);
         toks.truncate(kept_toks);
-        Reduced::of_parts(spelled, toks, lines)
+        Reduced::of_parts(alloc, spelled, toks, lines)
     }
 }

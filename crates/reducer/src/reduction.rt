@@ -3,7 +3,8 @@ ghost use Rattle.std.specs.List.{filter};
 ghost use Rattle.line_splice.specs.Cursor.{text_of, rest};
 ghost use Rattle.scan_model.specs.Lines.{closed, is_directive, kept};
 ghost use Rattle.pp_lexer.specs.Brackets.{IsBare};
-ghost use Rattle.reducer.specs.Building.{kept_lines, open_toks, IsSound, HasLines};
+ghost use Rattle.reducer.specs.Building.{kept_lines, open_toks, IsSound, HasRoom, HasLines};
+ghost use Rattle.reducer.specs.Placed.{IsFurther};
 ghost use Rattle.reducer.specs.Directives.{IsPassed, kept_from};
 ghost use Rattle.reducer.specs.ReadToken.{ReadsToken};
 
@@ -23,6 +24,7 @@ fn pass_line(at: &mut Cursor<'_>)
     ensures text { text_of at.new ≡ text_of at.old }
     ensures kept { IsPassed (text_of at.old) (rest at.old) (rest at.new) }
     ensures less { length (rest at.new) ≤ length (rest at.old) - 1 }
+    ensures further { IsFurther (text_of at.old) (rest at.old) (rest at.new) }
 {
     'tokens: while pass_token(at) {}
     pass_newline(at);
@@ -47,8 +49,10 @@ fn read_token(
 ) -> Result<bool, NoMemory>
     requires text { text_of at.old ≡ text.now }
     requires sound { IsSound lines.old }
+    requires room { HasRoom lines.old text.now (rest at.old) }
     requires bare { IsBare bare_to.old text.now (rest at.old) }
     ensures text { text_of at.new ≡ text_of at.old }
+    ensures room { OnOk result (HasRoom lines.new text.now (rest at.new)) }
     ensures bare { OnOk result (IsBare bare_to.new text.now (rest at.new)) }
     ensures read { IfOk result (λ read. ReadsToken text.now lines.old (rest at.old) read lines.new (rest at.new)) }
 {
@@ -65,6 +69,7 @@ fn read_token(
 // Adds the open line where it is a directive; the physical line `last` ends it.
 fn end_line(lines: &mut OpenLines, last: u32) -> Result<(), NoMemory>
     requires sound { IsSound lines.old }
+    requires few { length lines.old.toks.items ≤ 33554433 }
     requires last { last ≤ 33554433 }
     ensures { OnOk result (HasLines lines.old lines.new (filter is_directive (closed (open_toks lines.old) last))) }
 {
@@ -80,8 +85,10 @@ fn end_line(lines: &mut OpenLines, last: u32) -> Result<(), NoMemory>
 fn read_line(text: &[u8], at: &mut Cursor<'_>, lines: &mut OpenLines) -> Result<(), NoMemory>
     requires text { text_of at.old ≡ text.now }
     requires sound { IsSound lines.old }
+    requires room { HasRoom lines.old text.now (rest at.old) }
     ensures text { text_of at.new ≡ text_of at.old }
     ensures sound { OnOk result (IsSound lines.new) }
+    ensures room { OnOk result (HasRoom lines.new text.now (rest at.new)) }
     ensures kept { OnOk result (kept_lines lines.new ++ kept_from text.now [] (rest at.new) ≡ kept_lines lines.old ++ kept_from text.now [] (rest at.old)) }
     ensures less { OnOk result (length (rest at.new) ≤ length (rest at.old) - 1) }
 {
@@ -103,8 +110,10 @@ fn read_line(text: &[u8], at: &mut Cursor<'_>, lines: &mut OpenLines) -> Result<
 fn reduce_line(text: &[u8], at: &mut Cursor<'_>, lines: &mut OpenLines) -> Result<(), NoMemory>
     requires text { text_of at.old ≡ text.now }
     requires sound { IsSound lines.old }
+    requires room { HasRoom lines.old text.now (rest at.old) }
     ensures text { text_of at.new ≡ text_of at.old }
     ensures sound { OnOk result (IsSound lines.new) }
+    ensures room { OnOk result (HasRoom lines.new text.now (rest at.new)) }
     ensures kept { OnOk result (kept_lines lines.new ++ kept_from text.now [] (rest at.new) ≡ kept_lines lines.old ++ kept_from text.now [] (rest at.old)) }
     ensures less { OnOk result (length (rest at.new) ≤ length (rest at.old) - 1) }
 {
@@ -135,5 +144,5 @@ pub fn reduce(alloc: Global, text: &[u8]) -> Result<Reduced, NoMemory>
         }
         reduce_line(text, &mut at, &mut lines)?;
     }
-    Ok(lines.into_reduced())
+    lines.into_reduced(alloc)
 }

@@ -1,6 +1,7 @@
 use crate::*;
+use macro_table::Macros;
 use pp_lexer::lines;
-use scan_model::Line;
+use scan_model::{Def, Dialect, Directive, Line, Skip};
 use std::alloc::Global;
 use std::process::Abort;
 use std::sync::Arc;
@@ -344,6 +345,15 @@ fn header_names_hold_slashes(rt: HostRuntime) -> Result<(), Fail> {
     reduces(
         &rt,
         alloc,
+        b"#include_next <a//b> // c\n#if __has_include_next(<a//b>)\n",
+        &[
+            kept(1, 2, b"#|include_next|<a//b>"),
+            kept(2, 3, b"#|if|__has_include_next|(|<a//b>|)"),
+        ],
+    )?;
+    reduces(
+        &rt,
+        alloc,
         b"x __has_include(<a//b>)\nimport a;\n",
         &[kept(2, 3, b"import|a|;")],
     )
@@ -388,4 +398,93 @@ fn an_answer_is_shared(rt: HostRuntime) -> Result<(), Fail> {
     assert_eq!(rt; lines.len(), 1);
     assert_eq!(rt; Answer::Big.share().is_ok(), true);
     Ok(())
+}
+
+// Where the lines after the first one lead.
+#[derive(Clone, Copy)]
+struct Leads {
+    text: &'static [u8],
+    older: Skip,
+    newer: Skip,
+}
+
+fn leads_as_told(rt: &impl Abort, alloc: Global, row: Leads) -> Result<(), Fail> {
+    if row.text.len() > 1000 {
+        return Err("long".into());
+    }
+    let reduced = reduce(alloc, row.text).ok().ok_or("memory")?;
+    if reduced.len() == 0 {
+        return Err("no line".into());
+    }
+    assert_eq!(rt; reduced.skip(0, Dialect::Cxx20), row.older);
+    assert_eq!(rt; reduced.skip(0, Dialect::Cxx23), row.newer);
+    Ok(())
+}
+
+fn same(text: &'static [u8], skip: Skip) -> Leads {
+    Leads {
+        text,
+        older: skip,
+        newer: skip,
+    }
+}
+
+#[test]
+fn skipped_groups_lead_to_their_partners(rt: HostRuntime) -> Result<(), Fail> {
+    let alloc = rt.alloc();
+    let rows = [
+        same(
+            b"#if 0\n#if x\n#endif\n#elif 1\nimport a;\n#endif\n",
+            Skip::Partner(3),
+        ),
+        same(
+            b"#if 0\n#if x\n#else\n#else\n#endif\n#endif\n",
+            Skip::Broken(3),
+        ),
+        same(b"#if 0\n#if x\n#endif\n", Skip::Open(0)),
+        same(b"#if 0\n#if x\n", Skip::Open(1)),
+        Leads {
+            text: b"#if 0\n#elifdef x\n#endif\n",
+            older: Skip::Partner(2),
+            newer: Skip::Partner(1),
+        },
+    ];
+    for row in rows {
+        leads_as_told(&rt, alloc, row)?;
+    }
+    Ok(())
+}
+
+#[test]
+fn definitions_are_shared(rt: HostRuntime) -> Result<(), Fail> {
+    let alloc = rt.alloc();
+    let reduced = reduce(alloc, b"#define F(a) a b\n#define 3\n")
+        .ok()
+        .ok_or("memory")?;
+    let mut macros = Macros::new(alloc).ok().ok_or("memory")?;
+    assert_eq!(rt; define(&reduced, 0, &mut macros)?, true);
+    match macros.get(b"F") {
+        Some(Def::Function(f)) => assert_eq!(rt; f.body.as_slice().len(), 2),
+        _ => return Err("no function".into()),
+    }
+    assert_eq!(rt; define(&reduced, 1, &mut macros)?, false);
+    Ok(())
+}
+
+// Gives the table the line's definition. The answer is false for a bad one.
+fn define(reduced: &Reduced, k: u32, macros: &mut Macros) -> Result<bool, Fail> {
+    if k >= reduced.len() {
+        return Err("no line".into());
+    }
+    if !matches!(reduced.directive(k, Dialect::Cxx20), Directive::Define) {
+        return Err("no #define".into());
+    }
+    let Some(found) = reduced.define(k) else {
+        return Ok(false);
+    };
+    macros
+        .define_shared(found.name, found.def)
+        .ok()
+        .ok_or("memory")?;
+    Ok(true)
 }

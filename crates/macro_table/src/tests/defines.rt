@@ -33,6 +33,7 @@ fn names_are_identifiers_that_are_free(rt: HostRuntime) -> Result<(), Fail> {
 3 x => bad
 defined => bad
 __has_include => bad
+__has_include_next 1 => bad
 __has_cpp_attribute => bad
 __VA_ARGS__ x => bad
 __VA_OPT__ x => bad

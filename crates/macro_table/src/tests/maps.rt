@@ -1,4 +1,5 @@
 use super::*;
+use std::sync::Arc;
 
 /// Fails where the name's definition isn't what `shown` prints, or `none`.
 fn has(rt: &HostRuntime, macros: &Macros, name: &str, want: &str) -> Result<(), Fail> {
@@ -22,6 +23,7 @@ fn the_built_in_names_are_there(rt: HostRuntime) -> Result<(), Fail> {
     let mut macros = Macros::new(rt.alloc())?;
     has(&rt, &macros, "__FILE__", "built in")?;
     has(&rt, &macros, "__has_cpp_attribute", "built in")?;
+    has(&rt, &macros, "__has_include_next", "built in")?;
     has(&rt, &macros, "__FILE", "none")?;
     macros.undef(b"__FILE__");
     macros.undef(b"A");
@@ -63,4 +65,17 @@ fn an_absence_is_saved(rt: HostRuntime) -> Result<(), Fail> {
     has(&rt, &macros, "A", "= 1")?;
     macros.pop(b"A");
     has(&rt, &macros, "A", "none")
+}
+
+#[test]
+fn a_shared_definition_replaces_an_earlier_one(rt: HostRuntime) -> Result<(), Fail> {
+    let mut macros = Macros::new(rt.alloc())?;
+    define(&rt, &mut macros, "A 1")?;
+    let toks = tokens(rt.alloc(), "A 2")?;
+    let Ok((name, def)) = read_define(rt.alloc(), toks.as_slice())? else {
+        return Err(Fail::from("a bad definition"));
+    };
+    let shared = Arc::new(rt.alloc(), def)?;
+    macros.define_shared(name.as_slice(), &shared)?;
+    has(&rt, &macros, "A", "= 2")
 }

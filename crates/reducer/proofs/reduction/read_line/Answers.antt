@@ -1,11 +1,12 @@
-use Rattle.std.proofs.Common.{◌++◌, [], true, false, ◌∙◌, ap, sym, arith}
+use Rattle.std.proofs.Common.{◌++◌, [], true, false, ◌∙◌, ap, sym, length, arith}
 use Rattle.std.specs.List.{filter}
-use Rattle.line_splice.specs.Cursor.{rest}
+use Rattle.line_splice.specs.Cursor.{text_of, rest}
 use Rattle.scan_model.specs.Spliced.{line_at}
 use Rattle.scan_model.specs.Lines.{closed, is_directive}
 use Rattle.reducer.specs.Building.{kept_lines, open_toks}
 use Rattle.reducer.specs.Directives.{kept_from}
 use Rattle.reducer.proofs.PassLemmas.{line_less}
+use Rattle.reducer.proofs.RoomLemmas.{room_along, room_later, room_stays, place_small, further_one}
 use Rattle.reducer.proofs.TurnLemmas.{as_read, read_smaller, read_turn, line_turn, dropped_turn}
 use Rattle.reducer.proofs.reduction.read_line.Goals as goal
 
@@ -27,6 +28,24 @@ returns-then-is_text-clause-less c =
     let less = read_smaller text c.toks.lines after (rest c.toks.at) (rest c.read_token.new.at) read in
     omega (arith, less, c.pass_line.ensures.less, c.toks.invariant.less)
 
+pub returns-then-is_text-clause-room : goal.returns-then-is_text-clause-room
+returns-then-is_text-clause-room c =
+    room_along c.read_token.new.lines c.args.text.now (text_of c.read_token.new.at) (rest c.read_token.new.at) (rest c.pass_line.new.at) (c.read_token.ensures.text ∙ c.toks.invariant.same)
+    c.in_ok-read_token.ensures.room c.pass_line.ensures.further
+
+pub end_line-requires-clause-few : goal.end_line-requires-clause-few
+end_line-requires-clause-few c =
+    omega (arith, c.in_ok-read_token.ensures.room.toks, place_small c.args.text.now c.read_token.new.at (c.read_token.ensures.text ∙ c.toks.invariant.same))
+
+pub returns-clause-room : goal.returns-clause-room
+returns-clause-room c =
+    let text = c.args.text.now in
+    let left = rest c.read_token.new.at in
+    let stay = c.in_ok-end_line.ensures.stay in
+    let room = room_stays c.read_token.new.lines c.end_line.new.lines text left c.in_ok-read_token.ensures.room (omega (arith, ap length stay.0)) (omega (arith, ap length stay.1)) in
+    room_later c.end_line.new.lines text left (rest c.pass_newline.new.at) room
+    (further_one text c.read_token.new.at (rest c.pass_newline.new.at) (c.read_token.ensures.text ∙ c.toks.invariant.same) c.pass_newline.ensures.rest)
+
 pub toks-smaller : goal.toks-smaller
 toks-smaller c =
     let text = c.args.text.now in
@@ -43,6 +62,7 @@ toks-preserved c =
     record {
       same = c.read_token.ensures.text ∙ c.toks.invariant.same;
       sound = read.2.sound;
+      room = c.in_ok-read_token.ensures.room;
       bare = c.in_ok-read_token.ensures.bare;
       lines = read.2.kept ∙ c.toks.invariant.lines;
       kept = c.toks.invariant.kept ∙ read_turn text c.toks.lines after (rest c.toks.at) (rest c.read_token.new.at) read;

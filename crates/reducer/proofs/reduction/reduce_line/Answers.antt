@@ -1,7 +1,8 @@
 use Rattle.std.proofs.Common.{◌∙◌, sym, arith}
-use Rattle.line_splice.specs.Cursor.{rest}
+use Rattle.line_splice.specs.Cursor.{text_of, rest}
 use Rattle.reducer.specs.Building.{kept_lines}
 use Rattle.reducer.proofs.PassLemmas.{blanks_kept, blanks_less, on_ok, passed_front, blanks_stop, first_smaller}
+use Rattle.reducer.proofs.RoomLemmas.{room_later, room_along, further_blanks, further_passed}
 use Rattle.reducer.proofs.reduction.reduce_line.Goals as goal
 
 pub returns-then-begins_text-clause-kept : goal.returns-then-begins_text-clause-kept
@@ -30,3 +31,18 @@ pub returns-clause-less : goal.returns-clause-less
 returns-clause-less c =
     let blanks = blanks_less (rest c.args.at.now) (rest c.pass_blanks.new.at) c.pass_blanks.ensures.rest in
     on_ok c.read_line.result _ _ (λ less. omega (arith, less, blanks)) c.read_line.ensures.less
+
+pub returns-then-begins_text-clause-room : goal.returns-then-begins_text-clause-room
+returns-then-begins_text-clause-room c =
+    let text = c.args.text.now in
+    let b = c.args.lines.now in
+    let at = rest c.pass_blanks.new.at in
+    let whole = c.pass_blanks.ensures.text ∙ c.requires.text in
+    let here = room_later b text (rest c.args.at.now) at c.requires.room (further_blanks text c.args.at.now at c.requires.text c.pass_blanks.ensures.rest) in
+    let passed = room_later b text at (rest c.pass_token.new.at) here (further_passed text c.pass_blanks.new.at c.pass_token.result (rest c.pass_token.new.at) whole c.pass_token.ensures.passed) in
+    room_along b text (text_of c.pass_token.new.at) (rest c.pass_token.new.at) (rest c.pass_line.new.at) (c.pass_token.ensures.text ∙ whole) passed c.pass_line.ensures.further
+
+pub read_line-requires-clause-room : goal.read_line-requires-clause-room
+read_line-requires-clause-room c =
+    let at = rest c.pass_blanks.new.at in
+    room_later c.args.lines.now c.args.text.now (rest c.args.at.now) at c.requires.room (further_blanks c.args.text.now c.args.at.now at c.requires.text c.pass_blanks.ensures.rest)

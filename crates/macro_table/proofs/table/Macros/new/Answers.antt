@@ -9,4 +9,4 @@ invariant_of-macros c = rw c.new.ensures.empty AreSound-empty
 
 pub returns : goal.returns
 unfolding built_ins macros_of
-returns c = rw (c.in_ok-set_built_in-8.ensures, c.in_ok-set_built_in-7.ensures, c.in_ok-set_built_in-6.ensures, c.in_ok-set_built_in-5.ensures, c.in_ok-set_built_in-4.ensures, c.in_ok-set_built_in-3.ensures, c.in_ok-set_built_in-2.ensures, c.in_ok-set_built_in.ensures, c.new.ensures.empty) refl
+returns c = rw (c.in_ok-set_built_in-9.ensures, c.in_ok-set_built_in-8.ensures, c.in_ok-set_built_in-7.ensures, c.in_ok-set_built_in-6.ensures, c.in_ok-set_built_in-5.ensures, c.in_ok-set_built_in-4.ensures, c.in_ok-set_built_in-3.ensures, c.in_ok-set_built_in-2.ensures, c.in_ok-set_built_in.ensures, c.new.ensures.empty) refl
