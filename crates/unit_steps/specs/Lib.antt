@@ -1,0 +1,11 @@
+pub mod Stack
+pub mod Searches
+pub mod Moments
+pub mod Stands
+pub mod Work
+pub mod UnitView
+pub mod Commands
+pub mod Jumps
+pub mod Logs
+pub mod Settings
+pub mod Laws
