@@ -30,8 +30,8 @@ module _ {X : Type 0} (P : X → Type 0) where
   all_at xs i x h e = ⊎_elim (λ (t : (y : X) × (i < length xs) × (slice_get xs i ≡ Some y) × (get_or xs i y ≡ y)). subst P (get_or_from_slice_get xs i x x e) (h i x t.1))
       (λ (t : (length xs ≤ i) × (slice_get xs i ≡ None)). some_is_none x (sym e ∙ t.1)) (slice_get_cases xs i).1
 
-module _ {T E : Type 0} (log_of : T → List E) (number_fixed : T → ℕ) (maker : E → ℕ) where
-  pub joins_at : (first : List E) (fixed passes id other : ℕ) (v w : View E) → v ≡ view v.marks Idle false → w ≡ view w.marks Idle false
+module _ {T E : Type 0} (log_of : T → List E) (number_fixed : T → List ℕ) (maker : E → ℕ) where
+  pub joins_at : (first : List E) (fixed : List ℕ) (passes id other : ℕ) (v w : View E) → v ≡ view v.marks Idle false → w ≡ view w.marks Idle false
       → Joins (Ruled log_of number_fixed maker first fixed passes) id v other w (view (w.marks ++ v.marks) Idle false) spent
   joins_at first fixed passes id other v w a b = subst (λ (z : View E × View E). Joins (Ruled log_of number_fixed maker first fixed passes) id z.0 other z.1 (view (z.1.marks ++ z.0.marks) Idle false) spent)
       (λ i. (sym a i, sym b i)) (joins log_of number_fixed maker first fixed passes id other v.marks w.marks)

@@ -117,7 +117,7 @@ module _ {E : Type 0} where
   told_has log k [] h = h
   told_has log k (m ∷ ms) h = ⊎_elim (λ (e : m.number ≡ k). inl e) (λ (t : HasNumber k ms). inr (told_has log k ms t)) h
 
-  pub told_marked : (maker : E → ℕ) (fixed : ℕ) (log new : List E) (n : ℕ) (owner : ℕ → ℕ) (seat : ℕ) (ms : List (Mark E)) → Each (MarkOk maker fixed log n owner seat) ms → Each (MarkOk maker fixed new n owner seat) (map (told new) ms)
+  pub told_marked : (maker : E → ℕ) (fixed : List ℕ) (log new : List E) (n : ℕ) (owner : ℕ → ℕ) (seat : ℕ) (ms : List (Mark E)) → Each (MarkOk maker fixed log n owner seat) ms → Each (MarkOk maker fixed new n owner seat) (map (told new) ms)
   told_marked maker fixed log new n owner seat [] e = tt
   told_marked maker fixed log new n owner seat (m ∷ ms) e = ((e.0.0, e.0.1, fits_now maker m.number new, e.0.3), told_marked maker fixed log new n owner seat ms e.1)
 

@@ -16,7 +16,7 @@ use Rattle.turn_lock.specs.Rule.{Phase, fresh, at_home, out_with, MarkOk, home, 
 use Rattle.turn_lock.proofs.MarkLemmas.{each_map, each_both, each_append, total_set, total_snoc, total_two, at_end, at_within, seats_stay, owned_set, has_left, has_right, has_some, distinct_append, put, put_here, put_else, moved, moved_here, moved_else}
 use Rattle.turn_lock.proofs.StepsKept.{not_both, idles, apart_set}
 
-module _ {T E : Type 0} (log_of : T → List E) (number_fixed : T → ℕ) (maker : E → ℕ) (first : List E) (fixed passes : ℕ) where
+module _ {T E : Type 0} (log_of : T → List E) (number_fixed : T → List ℕ) (maker : E → ℕ) (first : List E) (fixed : List ℕ) (passes : ℕ) where
   abbrev V : Type 0
   V = View E
 

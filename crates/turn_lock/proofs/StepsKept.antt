@@ -38,7 +38,7 @@ waits (Turn t) = false
 pub not_both : {A : Type 0} (b : Bool) → b ≡ true → b ≡ false → A
 not_both b t f = absurd (Rattle.std.proofs.Common.true≢false (sym t ∙ f))
 
-module _ {T E : Type 0} (log_of : T → List E) (number_fixed : T → ℕ) (maker : E → ℕ) (first : List E) (fixed passes : ℕ) where
+module _ {T E : Type 0} (log_of : T → List E) (number_fixed : T → List ℕ) (maker : E → ℕ) (first : List E) (fixed : List ℕ) (passes : ℕ) where
   abbrev V : Type 0
   V = View E
 
@@ -290,7 +290,7 @@ module _ {T E : Type 0} (log_of : T → List E) (number_fixed : T → ℕ) (make
       let both = ends r.log fixed known.3 (each_map (MarkOk maker fixed r.log passes r.owner id) (λ m. m.fixed ≡ fixed) (λ m ok. ok.3) v.marks mine.marked) in let end = both.1 in
       let grows : (k : ℕ) (seen : List E) → r.owner k ≢ id → Fits maker k seen r.log → Fits maker k seen new = λ k seen away f. ⊎_elim
       (λ (same : new ≡ r.log). subst (Fits maker k seen) (sym same) f)
-      (λ (z : (k : ℕ) × (e : E) × (fix : ℕ) × (seen : List E) × (v.marks ≡ mark k fix seen ∷ []) × (maker e ≡ k) × (new ≡ r.log ++ e ∷ [])).
+      (λ (z : (k : ℕ) × (e : E) × (fix : List ℕ) × (seen : List E) × (v.marks ≡ mark k fix seen ∷ []) × (maker e ≡ k) × (new ≡ r.log ++ e ∷ [])).
       let own = (subst (Each (MarkOk maker fixed r.log passes r.owner id)) z.4 mine.marked).0.1 in
       subst (Fits maker k seen) (sym z.6) (fits_more maker k seen r.log z.1 (λ names. away (ap r.owner (sym names ∙ z.5) ∙ own)) f)) end in (
         w,
@@ -328,7 +328,7 @@ module _ {T E : Type 0} (log_of : T → List E) (number_fixed : T → ℕ) (make
               });
           apart = apart_set s.views id w (λ j u d other there a b. some-ne-none u (sym b)) r.apart;
           grown = ⊎_elim (λ (same : new ≡ r.log). subst (Grown maker passes first) (sym same) r.grown)
-              (λ (z : (k : ℕ) × (e : E) × (fix : ℕ) × (seen : List E) × (v.marks ≡ mark k fix seen ∷ []) × (maker e ≡ k) × (new ≡ r.log ++ e ∷ [])).
+              (λ (z : (k : ℕ) × (e : E) × (fix : List ℕ) × (seen : List E) × (v.marks ≡ mark k fix seen ∷ []) × (maker e ≡ k) × (new ≡ r.log ++ e ∷ [])).
               let own = (subst (Each (MarkOk maker fixed r.log passes r.owner id)) z.4 mine.marked).0.0 in let names = z.5 in
               subst (Grown maker passes first) (sym z.6) (grown_more maker passes first r.log z.1 (omega arith) r.grown)) end;
         },

@@ -22,7 +22,7 @@ module _ {T E : Type 0} where
   first_log log l = log l.table.shared.key.first.value
 
   -- what is fixed of the state that it was made with
-  abbrev pub lock_fixed : (T → ℕ) → TurnLock T E → ℕ
+  abbrev pub lock_fixed : (T → List ℕ) → TurnLock T E → List ℕ
   lock_fixed fixed l = fixed l.table.shared.key.first.value
 
   module _ {g : Ghosts T E} where
@@ -38,7 +38,7 @@ module _ {T E : Type 0} where
     seen p = seen_of p.seat.me.0.marks
 
     -- what is fixed, as the pass knows it
-    abbrev pub pass_fixed : Pass T E g → ℕ
+    abbrev pub pass_fixed : Pass T E g → List ℕ
     pass_fixed p = fixed_of p.seat.me.0.marks
 
     -- the pass is one of the lock's, and what it knows to be fixed is the lock's
@@ -50,7 +50,7 @@ module _ {T E : Type 0} where
     FitsPass log p = Fits g.maker (number p) (seen p) log
 
     -- the passes have the numbers from k on, and each has seen the log and knows what is fixed
-    abbrev pub Dealt : TableId → ℕ → List E → ℕ → List (Pass T E g) → Type 0
+    abbrev pub Dealt : TableId → List ℕ → List E → ℕ → List (Pass T E g) → Type 0
     Dealt id fixed log k [] = Unit {0}
     Dealt id fixed log k (p ∷ ps) = ((pass_lock p ≡ id) × (number p ≡ k) × (seen p ≡ log) × (pass_fixed p ≡ fixed)) × Dealt id fixed log (k + 1) ps
 

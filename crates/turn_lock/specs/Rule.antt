@@ -18,10 +18,10 @@ pub data Phase (T : Type 0) : Type 0 where
   out_with : ℕ → Phase T
 
 -- a mark: its number is one of the lock's and belongs to this seat, what it has seen fits the log, and what it holds for fixed is fixed
-abbrev pub MarkOk : {E : Type 0} → (E → ℕ) → ℕ → List E → ℕ → (ℕ → ℕ) → ℕ → Mark E → Type 0
+abbrev pub MarkOk : {E : Type 0} → (E → ℕ) → List ℕ → List E → ℕ → (ℕ → ℕ) → ℕ → Mark E → Type 0
 MarkOk maker fixed log passes owner seat m = (m.number < passes) × (owner m.number ≡ seat) × Fits maker m.number m.seen log × (m.fixed ≡ fixed)
 
-module _ {T E : Type 0} (log_of : T → List E) (number_fixed : T → ℕ) (maker : E → ℕ) where
+module _ {T E : Type 0} (log_of : T → List E) (number_fixed : T → List ℕ) (maker : E → ℕ) where
   -- what the slot shows: nothing yet, the state, or that a seat has it
   abbrev pub home : Phase T → List (maybe.Option (Option T))
   home fresh = some None ∷ []
@@ -29,7 +29,7 @@ module _ {T E : Type 0} (log_of : T → List E) (number_fixed : T → ℕ) (make
   home (out_with j) = maybe.none ∷ []
 
   -- before the state is in, the opening view is the only one; a state at home has the log and what is fixed; a state that is out is with a seat in its turn
-  abbrev pub PhaseOk : ℕ → List E → List (View E) → Phase T → Type 0
+  abbrev pub PhaseOk : List ℕ → List E → List (View E) → Phase T → Type 0
   PhaseOk fixed log views fresh = (v : View E) × (views ≡ v ∷ []) × (v.opening ≡ true) × Each (λ m. m.seen ≡ log) v.marks
   PhaseOk fixed log views (at_home x) = (log_of x ≡ log) × (number_fixed x ≡ fixed)
   PhaseOk fixed log views (out_with j) = (v : View E) × (t : ℕ) × (get_elem? views j ≡ some v) × (v.stage ≡ Turn t)
@@ -47,7 +47,7 @@ module _ {T E : Type 0} (log_of : T → List E) (number_fixed : T → ℕ) (make
   StageOk turn count phase log seat ms (Turn t) = (t ≡ turn) × (0 < count) × (phase ≡ out_with seat) × Each (λ m. m.seen ≡ log) ms
 
   -- what holds of one seat: only one with one number, or the opening one, has a ticket, and the opening one is alone
-  pub record SeatOk (fixed passes turn count : ℕ) (phase : Phase T) (log : List E) (owner : ℕ → ℕ) (views : ℕ) (seat : ℕ) (v : View E) : Type 0 where
+  pub record SeatOk (fixed : List ℕ) (passes turn count : ℕ) (phase : Phase T) (log : List E) (owner : ℕ → ℕ) (views : ℕ) (seat : ℕ) (v : View E) : Type 0 where
     pub marked : Each (MarkOk maker fixed log passes owner seat) v.marks
     pub distinct : Distinct v.marks
     pub staged : StageOk turn count phase log seat v.marks v.stage
@@ -56,7 +56,7 @@ module _ {T E : Type 0} (log_of : T → List E) (number_fixed : T → ℕ) (make
     pub opens : v.opening ≡ true → (views ≡ 1) × MayOpen phase
 
   -- the whole rule: turn is the ticket that is served as a number of any size, and owner says which seat has a number
-  pub record Ruled (first : List E) (fixed passes : ℕ) (s : State (Option T) (View E)) : Type 0 where
+  pub record Ruled (first : List E) (fixed : List ℕ) (passes : ℕ) (s : State (Option T) (View E)) : Type 0 where
     pub turn : ℕ
     pub phase : Phase T
     pub log : List E

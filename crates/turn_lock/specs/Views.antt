@@ -41,11 +41,11 @@ ticket_of (Waits t) = some t
 ticket_of (Turn t) = some t
 
 module _ {E : Type 0} where
-  abbrev pub mark : ℕ → ℕ → List E → Mark E
+  abbrev pub mark : ℕ → List ℕ → List E → Mark E
   mark number fixed seen = record { number = number; fixed = fixed; seen = seen }
 
   -- the marks of n numbers from k on
-  abbrev pub marks_from : ℕ → ℕ → ℕ → List E → List (Mark E)
+  abbrev pub marks_from : ℕ → ℕ → List ℕ → List E → List (Mark E)
   marks_from k zero fixed seen = []
   marks_from k (suc n) fixed seen = mark k fixed seen ∷ marks_from (k + 1) n fixed seen
 
@@ -53,15 +53,15 @@ module _ {E : Type 0} where
   view ms st o = record { marks = ms; stage = st; opening = o }
 
   -- the view of the seat with which a lock of n passes is opened
-  abbrev pub start : ℕ → List E → ℕ → View E
+  abbrev pub start : List ℕ → List E → ℕ → View E
   start fixed seen n = view (marks_from 0 n fixed seen) Idle true
 
   -- a pass between two of its turns
-  abbrev pub resting : ℕ → ℕ → List E → View E
+  abbrev pub resting : ℕ → List ℕ → List E → View E
   resting number fixed seen = view (mark number fixed seen ∷ []) Idle false
 
   -- a pass in its turn
-  abbrev pub in_turn : ℕ → ℕ → List E → ℕ → View E
+  abbrev pub in_turn : ℕ → List ℕ → List E → ℕ → View E
   in_turn number fixed log t = view (mark number fixed log ∷ []) (Turn t) false
 
   -- what is known of a number that has seen the log
@@ -78,8 +78,8 @@ module _ {E : Type 0} where
   number_of (m ∷ ms) = m.number
 
   -- what is fixed, as the first of the numbers knows it
-  abbrev pub fixed_of : List (Mark E) → ℕ
-  fixed_of [] = 0
+  abbrev pub fixed_of : List (Mark E) → List ℕ
+  fixed_of [] = []
   fixed_of (m ∷ ms) = m.fixed
 
   -- what the first of the numbers has seen

@@ -26,6 +26,6 @@ pub trait Logged: Send {
     /// The number of the pass that an entry names.
     ghost maker: { Self.Entry → ℕ };
 
-    /// A number of the state that no step changes.
-    ghost fixed: { Self → ℕ };
+    /// Numbers of the state that no step changes.
+    ghost fixed: { Self → List ℕ };
 }

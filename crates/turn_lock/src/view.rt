@@ -27,7 +27,7 @@ impl<T: Logged> TableRule<Option<T>, View<T::Entry>, Beginning<T>> for TicketRul
 /// The number of a pass, what it knows to be fixed, and the log that it has seen.
 pub struct Mark<E> {
     pub number: u32,
-    pub fixed: u64,
+    pub fixed: LinkedList<u64>,
     pub seen: LinkedList<E>,
 }
 

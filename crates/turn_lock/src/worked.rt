@@ -30,7 +30,7 @@ impl Logged for Tally {
 
     ghost maker = { λ e. e.by };
 
-    ghost fixed = { λ s. s.shelf };
+    ghost fixed = { λ s. s.shelf ∷ [] };
 }
 
 impl Tally {
