@@ -1,16 +1,18 @@
-ghost use Rattle.std.specs.Prelude.{◌≡◌, []};
-ghost use Rattle.file_source.specs.CameOf.{IsCaused, outcome_of, bytes_of, faults_of, count_of};
+ghost use Rattle.std.specs.Prelude.{◌≡◌, ◌⊎◌, [], Some, IfSome, IfOk, IfErr, MatchOption, Contains, IsUtf8};
+ghost use Rattle.std.specs.Fs.{file_type, IsDir};
+ghost use Rattle.std.specs.IoError.{error_kind};
+ghost use Rattle.file_source.specs.CameOf.{IsCaused, unopened_as, outcome_of, bytes_of, faults_of, count_of};
 
+use crate::counted_reader::CountedReader;
 use crate::given::Came;
-use crate::{FILE_LIMIT, Given, Source};
+use crate::reading::read_all;
+use crate::{Given, Source};
 use scan_model::{Bytes, NoMemory, Outcome, PathText};
 use std::alloc::Global;
-use std::io::{ErrorKind, Read};
+use std::fs::Metadata;
+use std::io::ErrorKind;
 use std::rt::Files;
 use std::{fs, io};
-
-// Each turn takes at least one byte, so that more turns would read too many bytes.
-const READ_TURNS: usize = 33_554_433;
 
 /// The system's files: the trusted edge of the scanner's reads.
 #[derive(Drop)]
@@ -39,7 +41,8 @@ impl<H: Files + Clone + Drop + Send> DiskSource<H> {
 
 // What an error at opening stands for.
 fn unopened(kind: ErrorKind) -> Came
-    ensures { IsCaused result }
+    ensures value { result ≡ unopened_as kind }
+    ensures caused { IsCaused result }
 {
     match kind {
         ErrorKind::NotFound | ErrorKind::NotADirectory | ErrorKind::IsADirectory => Came::Absent,
@@ -48,59 +51,46 @@ fn unopened(kind: ErrorKind) -> Came
     }
 }
 
-// What an error stands for after so many bytes have come.
-fn cut_off(kind: ErrorKind, came: usize) -> Came
-    ensures { IsCaused result }
+// The name by which the system knows a path; None where it can't: the path has a zero byte or isn't UTF-8.
+fn name_of(path: &[u8]) -> Option<&str>
+    ensures { MatchOption result (Contains path.now 0 ⊎ ¬ (IsUtf8 path.now)) (λ name. (name.now ≡ path.now) × ¬ (Contains path.now 0)) }
 {
-    match kind {
-        ErrorKind::OutOfMemory => Came::NoMemory(came),
-        _ => Came::Failed(came),
+    if path.contains(&0) {
+        return None;
     }
+    str::from_utf8(path).ok()
 }
 
-// The rest of an open file, or what comes of it up to the first byte too many.
-fn read_all<R: Read>(alloc: Global, file: &mut R) -> Came
-    ensures { IsCaused result }
+// What the system's word of a name stands for; None where the name may be opened.
+fn unlike_a_file(about: io::Result<Metadata>) -> Option<Came>
+    ensures known { IfOk about (λ m. MatchOption result (¬ (IsDir (file_type m))) (λ came. IsDir (file_type m) × (came ≡ Came.Absent))) }
+    ensures unknown { IfErr about (λ e. result ≡ Some (unopened_as (error_kind e))) }
+    ensures caused { IfSome result (λ came. IsCaused came) }
 {
-    let mut bytes = Vec::new(alloc);
-    let mut chunk = [0u8; 4096];
-    for _turn in 0..READ_TURNS {
-        match file.read(&mut chunk) {
-            Ok(0) => return Came::Present(Bytes::of_vec(bytes)),
-            Ok(n) => {
-                let came = bytes.len() + n;
-                if came > FILE_LIMIT {
-                    return Came::Big(came);
-                }
-                if bytes.extend_from_slice(&chunk[..n]).is_err() {
-                    return Came::NoMemory(came);
-                }
+    match about {
+        Ok(about) => {
+            if about.is_dir() {
+                Some(Came::Absent)
+            } else {
+                None
             }
-            Err(error) => return cut_off(error.kind(), bytes.len()),
         }
+        Err(error) => Some(unopened(error.kind())),
     }
-    Came::Big(bytes.len())
 }
 
 fn read_path<H: Files>(alloc: Global, rt: &H, path: &[u8]) -> Came
-    ensures { IsCaused result }
+    ensures caused { IsCaused result }
+    ensures unnamed { Contains path.now 0 ⊎ ¬ (IsUtf8 path.now) → result ≡ Came.Absent }
 {
-    if path.contains(&0) {
-        return Came::Absent;
-    }
-    let Ok(name) = str::from_utf8(path) else {
+    let Some(name) = name_of(path) else {
         return Came::Absent;
     };
-    match rt.metadata(name) {
-        Ok(about) => {
-            if about.is_dir() {
-                return Came::Absent;
-            }
-        }
-        Err(error) => return unopened(error.kind()),
+    if let Some(came) = unlike_a_file(rt.metadata(name)) {
+        return came;
     }
     match fs::open(rt, name) {
-        Ok(mut file) => read_all(alloc, &mut file),
+        Ok(file) => read_all(alloc, &mut CountedReader::new(file)),
         Err(error) => unopened(error.kind()),
     }
 }

@@ -1,8 +1,7 @@
 ghost use Rattle.std.specs.Prelude.{◌≡◌};
 ghost use Rattle.file_source.specs.CameOf.{IsCaused, came_of_bytes, outcome_of, bytes_of};
 
-use crate::FILE_LIMIT;
-use scan_model::{Bytes, Outcome};
+use scan_model::{Bytes, FILE_LIMIT, Outcome};
 
 /// What came of one read.
 #[derive(Drop)]

@@ -6,6 +6,7 @@
 //! one over memory.
 #![tactic(auto)]
 
+mod counted_reader;
 mod disk_source;
 mod given;
 mod made_file;
@@ -13,6 +14,7 @@ mod memory_sink;
 mod memory_source;
 mod out_sink;
 mod plain_source;
+mod reading;
 mod sink;
 mod source;
 
@@ -24,7 +26,7 @@ pub use memory_source::{MemoryOpener, MemorySource, Scripted, ScriptedOutcome};
 pub use out_sink::OutSink;
 pub use plain_source::{PlainGiven, PlainOpener, PlainSource};
 pub use sink::{Failed, Sink};
-pub use source::{FILE_LIMIT, Source};
+pub use source::Source;
 
 #[cfg(test)]
 mod tests;

@@ -27,7 +27,8 @@ impl MemorySink {
     pub fn new(alloc: Global, room: u32, failing: Items<u32>) -> Result<MemorySink, NoMemory>
         ensures empty { IfOk result (λ s. ⟦<MemorySink as Sink>⟧.held s ≡ Some []) }
         ensures fine { IfOk result (λ s. ⟦<MemorySink as Sink>⟧.faults s ≡ 0) }
-        ensures script { IfOk result (λ s. (s.room ≡ room) × (s.failing ≡ failing) × (s.puts ≡ 0)) }
+        ensures unput { IfOk result (λ s. ⟦<MemorySink as Sink>⟧.puts s ≡ 0) }
+        ensures script { IfOk result (λ s. (s.room ≡ room) × (s.failing ≡ failing)) }
     {
         let room = room as usize;
         Ok(MemorySink {
@@ -67,6 +68,8 @@ impl Sink for MemorySink {
     ghost held = { λ s. Some s.bytes.items };
 
     ghost faults = { λ s. s.faults };
+
+    ghost puts = { λ s. s.puts };
 
     fn put(&mut self, piece: &[u8]) -> Result<(), Failed>
         ensures added { OnOk result (Adds (Some self.old.bytes.items) piece.now (Some self.new.bytes.items)) }

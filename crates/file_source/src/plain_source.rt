@@ -3,8 +3,8 @@ ghost use Rattle.file_source.specs.CameOf.{IsCaused, bytes_of, came_of_bytes, co
 ghost use Rattle.file_source.specs.Made.{came_at};
 
 use crate::given::Came;
-use crate::{FILE_LIMIT, Listed, MadeFile, Source};
-use scan_model::{Bytes, Items, NoMemory, Outcome, PathText};
+use crate::{Listed, MadeFile, Source};
+use scan_model::{Bytes, FILE_LIMIT, Items, NoMemory, Outcome, PathText};
 use std::alloc::Global;
 use std::marker::PhantomData;
 

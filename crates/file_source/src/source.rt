@@ -5,9 +5,6 @@ ghost use Rattle.file_source.specs.Givens.{IsGiven};
 use scan_model::{NoMemory, Outcome, PathText};
 use std::alloc::Global;
 
-/// The most bytes that one file may have.
-pub const FILE_LIMIT: usize = 33_554_432;
-
 /// Files by their paths. Asking for a path and reading it are two steps, so that a path can be asked for under a lock
 /// and read without it.
 pub trait Source: Send {

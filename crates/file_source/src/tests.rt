@@ -1,12 +1,15 @@
 ghost use Rattle.std.specs.Prelude.{◌≡◌};
 ghost use Rattle.scan_model.specs.Paths.{IsNormal};
 
+use crate::counted_reader::CountedReader;
+use crate::reading::read_all;
 use crate::{
     DiskSource, Listed, MadeFile, MemorySink, MemorySource, OutSink, PlainSource, Scripted,
     ScriptedOutcome, Sink, Source,
 };
 use scan_model::{Bytes, Items, Outcome, PathText};
 use std::alloc::Global;
+use std::io::{ErrorKind, Read};
 use std::marker::Brand;
 use std::test::Fail;
 use std::{fs, io};
@@ -30,6 +33,24 @@ fn path_m(alloc: Global) -> Result<PathText, Fail> {
 #[tactic(auto, unfolding(scan_model::specs::Paths::normal))]
 fn path_here(alloc: Global) -> Result<PathText, Fail> {
     path(alloc, b".")
+}
+
+// A name that no file has, since it has a zero byte.
+#[tactic(auto, unfolding(scan_model::specs::Paths::normal))]
+fn path_with_zero(alloc: Global) -> Result<PathText, Fail> {
+    path(alloc, b"w\0")
+}
+
+// A name that isn't UTF-8.
+#[tactic(auto, unfolding(scan_model::specs::Paths::normal))]
+fn path_of_no_text(alloc: Global) -> Result<PathText, Fail> {
+    path(alloc, b"\xff")
+}
+
+// A name below a file.
+#[tactic(auto, unfolding(scan_model::specs::Paths::normal))]
+fn path_below(alloc: Global) -> Result<PathText, Fail> {
+    path(alloc, b"w/m")
 }
 
 // A script for the path `w` alone.
@@ -138,9 +159,50 @@ fn disk_source_reads_files(rt: HostRuntime) -> Result<(), Fail> {
             b"on the disk"
         )?
     );
-    assert!(rt; gives(alloc, &mut source, &path_m(alloc)?, Outcome::Absent, b"")?);
-    assert!(rt; gives(alloc, &mut source, &path_here(alloc)?, Outcome::Absent, b"")?);
+    let absent = [
+        path_m(alloc)?,
+        path_here(alloc)?,
+        path_with_zero(alloc)?,
+        path_of_no_text(alloc)?,
+        path_below(alloc)?,
+    ];
+    for path in &absent {
+        assert!(rt; gives(alloc, &mut source, path, Outcome::Absent, b"")?);
+    }
     fs::remove_file(&rt, "w")?;
+    Ok(())
+}
+
+// A reader that gives so many bytes, one at a time, and then fails.
+#[derive(Drop)]
+struct Breaking {
+    left: usize,
+    kind: ErrorKind,
+}
+
+impl Read for Breaking {
+    fn read(&mut self, buf: &mut [u8]) -> io::Result<usize> {
+        if self.left == 0 || buf.is_empty() {
+            return Err(io::Error::from(self.kind));
+        }
+        buf[0] = b'x';
+        self.left -= 1;
+        Ok(1)
+    }
+}
+
+// What comes of a reader that fails so after three bytes.
+fn broken(alloc: Global, kind: ErrorKind) -> Outcome {
+    let mut file = CountedReader::new(Breaking { left: 3, kind });
+    read_all(alloc, &mut file).outcome()
+}
+
+#[test]
+fn a_read_that_fails_in_the_middle_is_no_file(rt: HostRuntime) -> Result<(), Fail> {
+    let alloc = rt.alloc();
+    assert!(rt; broken(alloc, ErrorKind::Other) == Outcome::Failed);
+    assert!(rt; broken(alloc, ErrorKind::NotFound) == Outcome::Failed);
+    assert!(rt; broken(alloc, ErrorKind::OutOfMemory) == Outcome::NoMemory);
     Ok(())
 }
 
@@ -168,5 +230,27 @@ fn out_sink_fails_where_its_writer_is_full(rt: HostRuntime) -> Result<(), Fail> 
     assert!(rt; sink.put(b"ab").is_ok());
     assert!(rt; sink.put(b"cd").is_err());
     assert!(rt; sink.put(b"").is_ok());
+    Ok(())
+}
+
+// A writer that takes all and can't hand it on.
+#[derive(Drop)]
+struct Unflushed;
+
+impl io::Write for Unflushed {
+    fn write(&mut self, buf: &[u8]) -> io::Result<usize> {
+        Ok(buf.len())
+    }
+
+    fn flush(&mut self) -> io::Result<()> {
+        Err(io::Error::from(ErrorKind::Other))
+    }
+}
+
+#[test]
+fn out_sink_fails_where_its_writer_does_not_flush(rt: HostRuntime) -> Result<(), Fail> {
+    let mut sink = OutSink::new(Unflushed);
+    assert!(rt; sink.put(b"ab").is_err());
+    assert!(rt; sink.put(b"").is_err());
     Ok(())
 }
