@@ -4,7 +4,7 @@
 #![tactic(auto)]
 
 ghost use Rattle.std.specs.Prelude.{◌≡◌, ◌≤◌, ◌↔◌, [], All, IfOk, IsTrue, string_len, vec_len};
-ghost use Rattle.scanner.specs.StoreMap.{IsUntouched};
+ghost use Rattle.shard_cache.specs.StoreMap.{IsUntouched};
 
 use file_source::{DiskSource, OutSink, Source};
 use scan_model::NoMemory;

@@ -2,7 +2,6 @@ pub mod Words
 pub mod Asked
 pub mod Refusals
 pub mod Verdict
-pub mod StoreMap
 pub mod Sinks
 pub mod Printed
 pub mod Run

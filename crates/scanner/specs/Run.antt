@@ -14,7 +14,7 @@ use Rattle.scanner.specs.Refusals.{status_of, text_of}
 use Rattle.scanner.specs.declared.verdict.Verdict.{Verdict}
 use Rattle.scanner.specs.declared.verdict.Verdict.TheVariants.{Refuse, Scan}
 use Rattle.scanner.specs.Sinks.{Change, GotNothing, GotPut}
-use Rattle.scanner.specs.StoreMap.{file_map, HaveRows, IsUntouched}
+use Rattle.shard_cache.specs.StoreMap.{file_map, HaveRows, IsUntouched}
 use Rattle.scanner.specs.Printed.{IsPrinted}
 
 -- ## The ends

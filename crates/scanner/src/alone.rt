@@ -4,7 +4,7 @@ ghost use Rattle.file_source.specs.Givens.{IsGiven};
 ghost use Rattle.shard_cache.specs.Rows.{all_asked};
 ghost use Rattle.scanner.specs.Words.{database_path, texts_of};
 ghost use Rattle.scanner.specs.Verdict.{verdict};
-ghost use Rattle.scanner.specs.StoreMap.{IsOneMap, IsUntouched};
+ghost use Rattle.shard_cache.specs.StoreMap.{IsOneMap, IsUntouched};
 ghost use Rattle.scanner.specs.Sinks.{change};
 ghost use Rattle.unit_scan.specs.PlainAnswer.{main_paths};
 ghost use Rattle.scanner.specs.Asked.{AsksDatabase};

@@ -1,7 +1,7 @@
 ghost use Rattle.std.specs.Prelude.{All, Contains, IfOk, OnOk};
 ghost use Rattle.shard_cache.specs.Rows.{all_rows, all_asked};
 ghost use Rattle.unit_scan.specs.PlainAnswer.{main_paths};
-ghost use Rattle.scanner.specs.StoreMap.{file_map, IsOneMap, IsUntouched, HaveRows};
+ghost use Rattle.shard_cache.specs.StoreMap.{file_map, IsOneMap, IsUntouched, HaveRows};
 ghost use Rattle.scanner.specs.Run.{IsEnd};
 
 use crate::reading::reading;

@@ -1,5 +1,5 @@
 ghost use Rattle.std.specs.Prelude.{◌≡◌, [], All, IfOk, vec_len};
-ghost use Rattle.scanner.specs.StoreMap.{IsUntouched};
+ghost use Rattle.shard_cache.specs.StoreMap.{IsUntouched};
 
 use crate::{Outside, scan_alone};
 use file_source::{MemorySink, MemorySource, Scripted, ScriptedOutcome, Source};

@@ -1,2 +1,6 @@
+pub mod Inserting
 pub mod RowLemmas
 pub mod StoreLemmas
+pub mod PlaceLemmas
+pub mod MapLemmas
+pub mod StoreRunLemmas

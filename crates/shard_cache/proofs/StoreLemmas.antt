@@ -1,7 +1,7 @@
 -- What callers use of a store: what a step leaves, and that its rows are one map.
-use Rattle.std.proofs.Common.{◌≡◌, ◌≢◌, ◌<◌, ◌≤◌, ℕ, zero, suc, List, [], ◌∷◌, ◌++◌, All, refl, ap, arith}
+use Rattle.std.proofs.Common.{◌≡◌, ◌≢◌, ◌<◌, ◌≤◌, ◌+◌, ℕ, zero, suc, List, [], ◌∷◌, ◌++◌, All, Contains, length, get_or, refl, ap, subst, arith}
 use Rattle.std.proofs.lemmas.List.{map-append}
-use Rattle.std.proofs.lemmas.List.Elements.{All-nil, All-cons, All-head, All-tail, All-append, All-map, All-weaker}
+use Rattle.std.proofs.lemmas.List.Elements.{All-nil, All-cons, All-head, All-tail, All-append, All-map, All-weaker, Contains-append_left, Contains-append_right}
 use Rattle.shard_cache.specs.declared.kept_row.KeptRow.{KeptRow}
 use Rattle.shard_cache.specs.Rows.{ShardView, AreShards, IsStore, LacksPath, AllDiffer, paths_of, shard_number, change_at, asked_also, kept_also, all_rows, all_origins}
 use Rattle.shard_cache.proofs.RowLemmas.{All-parts}
@@ -44,7 +44,7 @@ apart p n qs here later =
     All-weaker (λ (q : List ℕ). n < shard_number q) (λ (q : List ℕ). p ≢ q)
     (λ q after e. let same : shard_number p ≡ shard_number q = ap shard_number e in absurd (omega (arith, same, here, after))) qs later
 
-AllDiffer-append : (n : ℕ) (ps qs : List (List ℕ)) → AllDiffer ps → AllDiffer qs → All (λ p. shard_number p ≡ n) ps → All (λ q. n < shard_number q) qs → AllDiffer (ps ++ qs)
+pub AllDiffer-append : (n : ℕ) (ps qs : List (List ℕ)) → AllDiffer ps → AllDiffer qs → All (λ p. shard_number p ≡ n) ps → All (λ q. n < shard_number q) qs → AllDiffer (ps ++ qs)
 AllDiffer-append n [] qs dp dq here later = dq
 AllDiffer-append n (p ∷ ps) qs dp dq here later =
     (All-append (λ q. p ≢ q) ps qs dp.0 (apart p n qs (All-head (λ (r : List ℕ). shard_number r ≡ n) p ps here) later), AllDiffer-append n ps qs dp.1 dq (All-tail (λ (r : List ℕ). shard_number r ≡ n) p ps here) later)
@@ -79,3 +79,30 @@ fitting_rows {S = S} {O = O} {G = G} fits n (s ∷ ss) are =
 -- every row of a store keeps what a row keeps
 pub IsStore-rows : {S O G : Type 0} (fits : KeptRow S O G → Type 0) (shards : List (ShardView S O G)) → IsStore fits shards → All (λ row. fits row) (all_rows shards)
 IsStore-rows fits shards store = fitting_rows fits 0 shards store.each
+
+-- ## A search
+
+module _ {S O G : Type 0} (fits : KeptRow S O G → Type 0) (path : List ℕ) where
+  lacks_after : (n : ℕ) (shards : List (ShardView S O G)) → AreShards fits n shards → shard_number path < n → LacksPath shards path
+  lacks_after n [] are below = All-nil _
+  lacks_after n (s ∷ ss) are below =
+      All-append (λ (row : KeptRow S O G). row.path ≢ path) s.rows (all_rows ss)
+      (All-weaker (λ (row : KeptRow S O G). shard_number row.path ≡ n) (λ row. row.path ≢ path) (λ row number e. let same : shard_number row.path ≡ shard_number path = ap shard_number e in absurd (omega arith)) s.rows are.0.placed)
+      (lacks_after (suc n) ss are.1 (omega arith))
+
+  -- no row has a path that the rows of its shard lack
+  pub lacks_at : (n k : ℕ) (shards : List (ShardView S O G)) (shard : ShardView S O G) → AreShards fits n shards → shard_number path ≡ n + k → k < length shards → shard ≡ get_or shards k shard
+      → All (λ row. row.path ≢ path) shard.rows → LacksPath shards path
+  lacks_at n k [] shard are number inside at lacks = All-nil _
+  lacks_at n zero (s ∷ ss) shard are number inside at lacks =
+      All-append (λ (row : KeptRow S O G). row.path ≢ path) s.rows (all_rows ss) (subst (λ z. All (λ (row : KeptRow S O G). row.path ≢ path) z.rows) at lacks) (lacks_after (suc n) ss are.1 (omega arith))
+  lacks_at n (suc k) (s ∷ ss) shard are number inside at lacks =
+      All-append (λ (row : KeptRow S O G). row.path ≢ path) s.rows (all_rows ss)
+      (All-weaker (λ (row : KeptRow S O G). shard_number row.path ≡ n) (λ row. row.path ≢ path) (λ row here e. let same : shard_number row.path ≡ shard_number path = ap shard_number e in absurd (omega arith)) s.rows are.0.placed)
+      (lacks_at (suc n) k ss shard are.1 (omega arith) (omega arith) at lacks)
+
+-- a row of a shard is one of the store's
+pub contains_at : {S O G : Type 0} (k : ℕ) (shards : List (ShardView S O G)) (shard : ShardView S O G) (row : KeptRow S O G) → k < length shards → shard ≡ get_or shards k shard → Contains shard.rows row → Contains (all_rows shards) row
+contains_at k [] shard row inside at h = absurd (omega arith)
+contains_at zero (s ∷ ss) shard row inside at h = Contains-append_left s.rows (all_rows ss) row (subst (λ z. Contains z.rows row) at h)
+contains_at (suc k) (s ∷ ss) shard row inside at h = Contains-append_right s.rows (all_rows ss) row (contains_at k ss shard row (omega arith) at h)

@@ -4,11 +4,14 @@
 #![tactic(auto)]
 
 mod kept_row;
+mod places;
 mod shard;
 mod store;
 
 pub use kept_row::KeptRow;
-pub use store::Store;
+pub use places::Places;
+pub use shard::{MOST_ROWS, Shard};
+pub use store::{Store, shard_of};
 
 #[cfg(test)]
 mod tests;

@@ -1,4 +1,4 @@
-ghost use Rattle.std.specs.Prelude.{◌≡◌, ◌<◌, ◌-◌, ◌^◌, [], Some, All, OnOk, OnErr, IfOk, IfErr, map, min, length, slice_get, vec_len};
+ghost use Rattle.std.specs.Prelude.{◌≡◌, ◌<◌, [], Some, All, Contains, OnOk, OnErr, IfOk, IfErr, MatchOption, map, length, slice_get, vec_len};
 ghost use Rattle.shard_cache.specs.Rows.{shard_number, change_at, asked_also, kept_also, rows_at, all_rows, all_asked, all_origins, LacksPath, HasOwnLines, IsRow, IsStore};
 
 use crate::KeptRow;
@@ -30,8 +30,8 @@ impl<S: Source> Model for Store<S> {
     ghost invariant = { λ s. IsStore (IsRow S.given_path S.given_outcome S.given_bytes) s.shards.items };
 }
 
-// The number of the shard in which a path's row stands.
-fn shard_of(path: &[u8]) -> usize
+/// The number of the shard in which a path's row stands.
+pub fn shard_of(path: &[u8]) -> usize
     ensures number { result ≡ shard_number path.now }
     ensures bound { result < 16 }
 {
@@ -63,6 +63,22 @@ impl<S: Source> Store<S> {
         }
         left.destroy_empty();
         Ok(Store { shards })
+    }
+
+    /// The shards, in order.
+    pub fn into_shards(self) -> Vec<Shard<S>>
+        ensures shards { result.items ≡ self }
+        ensures valid { IsStore (IsRow S.given_path S.given_outcome S.given_bytes) self }
+    {
+        self.shards
+    }
+
+    /// The store of these shards. It takes no memory.
+    pub fn of_shards(shards: Vec<Shard<S>>) -> Store<S>
+        requires { IsStore (IsRow S.given_path S.given_outcome S.given_bytes) shards.items }
+        ensures { result ≡ shards.items }
+    {
+        Store { shards }
     }
 
     /// Asks the path of its shard's source. `Err` changes nothing.
@@ -112,14 +128,22 @@ impl<S: Source> Store<S> {
         self.shards[shard as usize].row(k)
     }
 
-    /// The number of all rows, or 2^64 - 1 where there are more.
+    /// The row of this path; None exactly where no row has it. It takes no memory.
+    pub fn find(&self, path: &PathText) -> Option<&KeptRow<S>>
+        ensures row { MatchOption result (LacksPath self.now path.now) (λ row. (row.now.path ≡ path.now) × Contains (all_rows self.now) row.now) }
+        ensures valid { IsStore (IsRow S.given_path S.given_outcome S.given_bytes) self.now }
+    {
+        self.shards[shard_of(path.as_slice())].find(path)
+    }
+
+    /// The number of all rows.
     pub fn paths(&self) -> u64
-        ensures rows { result ≡ min (length (all_rows self.now)) (2 ^ 64 - 1) }
+        ensures rows { result ≡ length (all_rows self.now) }
         ensures valid { IsStore (IsRow S.given_path S.given_outcome S.given_bytes) self.now }
     {
         let mut total = 0u64;
         for shard in &self.shards {
-            total = total.saturating_add(shard.len());
+            total += shard.len();
         }
         total
     }

@@ -11,6 +11,11 @@ fn path_w(alloc: Global) -> Result<PathText, Fail> {
     Ok(PathText::of_normal(Bytes::copy(alloc, b"w")?))
 }
 
+#[tactic(auto, unfolding(scan_model::specs::Paths::normal))]
+fn path_of_the_same_shard(alloc: Global) -> Result<PathText, Fail> {
+    Ok(PathText::of_normal(Bytes::copy(alloc, b"g")?))
+}
+
 fn source(alloc: Global) -> Result<MemorySource, Fail>
     ensures { IfOk result (λ source. source.asked.items ≡ []) }
 {
@@ -51,6 +56,8 @@ fn keeps_what_was_asked(rt: HostRuntime) -> Result<(), Fail> {
     };
     assert!(rt; store.add(row).is_ok());
     assert_eq!(rt; store.paths(), 1);
+    assert!(rt; store.find(&path_w(alloc)?).is_some());
+    assert!(rt; store.find(&path_of_the_same_shard(alloc)?).is_none());
     assert_eq!(rt; store.len(7), 1);
     assert_eq!(rt;
         MemorySource::bytes(&store.row(7, 0).given),

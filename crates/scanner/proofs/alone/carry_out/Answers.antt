@@ -1,4 +1,4 @@
-use Rattle.scanner.proofs.StoreLemmas.{IsUntouched-IsOneMap}
+use Rattle.shard_cache.proofs.MapLemmas.{IsUntouched-IsOneMap}
 use Rattle.scanner.proofs.alone.carry_out.Goals as goal
 
 pub returns-in-Refuse-clause-one_map : goal.returns-in-Refuse-clause-one_map

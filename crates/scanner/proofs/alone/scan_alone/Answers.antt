@@ -1,5 +1,5 @@
 use Rattle.std.proofs.lemmas.List.Elements.{All-nil}
-use Rattle.scanner.proofs.StoreLemmas.{IsUntouched-IsOneMap}
+use Rattle.shard_cache.proofs.MapLemmas.{IsUntouched-IsOneMap}
 use Rattle.scanner.proofs.alone.scan_alone.Goals as goal
 use Rattle.scanner.proofs.alone.scan_alone.Goals.{in-Ok+in-Scan-1, in-Ok+in-Refuse-1, in-Err}
 

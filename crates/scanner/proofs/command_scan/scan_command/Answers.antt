@@ -1,6 +1,6 @@
 use Rattle.std.proofs.Common.{◌≡◌, ◌∙◌, ap, sym, refl, Some, is_some, rules}
 use Rattle.shard_cache.specs.Rows.{shard_number, asked_also, stands_for, IsRow}
-use Rattle.scanner.proofs.StoreLemmas.{asked_and_kept, asked_then_kept, shard_inside, one_asked, file_map-kept, IsUntouched-IsOneMap, IsUntouched-LacksPath, IsUntouched-HaveRows, IsUntouched-new, LacksPath-asked, IsOneMap-asked, IsOneMap-kept, HaveRows-kept}
+use Rattle.shard_cache.proofs.MapLemmas.{asked_and_kept, asked_then_kept, shard_inside, one_asked, file_map-kept, IsUntouched-IsOneMap, IsUntouched-LacksPath, IsUntouched-HaveRows, IsUntouched-new, LacksPath-asked, IsOneMap-asked, IsOneMap-kept, HaveRows-kept}
 use Rattle.scanner.proofs.ScanLemmas.{IsEnd-read, looked_one}
 use Rattle.scanner.proofs.command_scan.scan_command.Goals as goal
 

@@ -3,7 +3,7 @@ use Rattle.std.specs.Prelude.{◌≡◌, ℕ, List, [], ◌∷◌, Some, None, i
 use Rattle.scan_model.specs.declared.Outcome.{Outcome}
 use Rattle.scan_model.specs.Files.{FileMap}
 use Rattle.scan_model.specs.TokenTests.{same}
-use Rattle.shard_cache.specs.declared.KeptRow.{KeptRow}
+use Rattle.shard_cache.specs.declared.kept_row.KeptRow.{KeptRow}
 use Rattle.shard_cache.specs.Rows.{ShardView, all_rows, all_asked, paths_of, AllDiffer, row_content}
 
 -- what the rows stand for, in the words of their source

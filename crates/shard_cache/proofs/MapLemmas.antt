@@ -1,17 +1,17 @@
--- What an ask and an added row keep of a store.
-use Rattle.std.proofs.Common.{◌≡◌, ◌≢◌, ◌<◌, ℕ, zero, suc, Bool, true, false, List, [], ◌∷◌, ◌++◌, length, Some, All, Contains, refl, sym, ◌∙◌, ap, lit<, sum, mod-lt}
+-- What an ask and an added row keep of a store that is one map.
+use Rattle.std.proofs.Common.{◌≡◌, ◌≢◌, ◌<◌, ℕ, zero, suc, Bool, true, false, List, [], ◌∷◌, ◌++◌, length, Some, None, All, Contains, get_or, map, subst, refl, sym, ◌∙◌, ap, lit<, sum, mod-lt, arith}
 use Rattle.std.specs.Prelude.{slice_get}
 use Rattle.std.proofs.lemmas.Slice.Eq.{bytes_eq-Decides}
-use Rattle.std.proofs.lemmas.List.{map-append}
-use Rattle.std.proofs.lemmas.List.Elements.{All-nil, All-head, All-tail, All-push, All-weaker, Contains-append_left, Contains-append_right}
+use Rattle.std.proofs.lemmas.List.{map-append, append-nil, length-map, get_or-map}
+use Rattle.std.proofs.lemmas.List.Elements.{All-nil, All-cons, All-head, All-tail, All-push, All-weaker, All-contains, Contains-append_left, Contains-append_right}
 use Rattle.scan_model.specs.declared.Outcome.{Outcome}
 use Rattle.scan_model.specs.TokenTests.{same}
-use Rattle.shard_cache.specs.declared.KeptRow.{KeptRow}
-use Rattle.shard_cache.specs.Rows.{ShardView, all_rows, all_asked, all_origins, paths_of, LacksPath, change_at, asked_also, kept_also, shard_number, IsStore, row_content}
-use Rattle.scanner.specs.StoreMap.{file_map, IsGivenHere, AreGiven, IsOneMap, HaveRows, IsUntouched}
+use Rattle.shard_cache.specs.declared.kept_row.KeptRow.{KeptRow}
+use Rattle.shard_cache.specs.Rows.{ShardView, all_rows, all_asked, all_origins, paths_of, AllDiffer, LacksPath, change_at, asked_also, kept_also, shard_number, IsStore, row_content}
+use Rattle.shard_cache.specs.StoreMap.{file_map, IsGivenHere, AreGiven, IsOneMap, HaveRows, IsUntouched}
 use Rattle.shard_cache.proofs.RowLemmas.{All-parts}
 use Rattle.shard_cache.proofs.StoreLemmas.{all_rows-asked, IsStore-differ}
-use Rattle.scanner.proofs.Inserting.{Inserted, AllDiffer-inserted, flat_map-change_at, change_at-change_at}
+use Rattle.shard_cache.proofs.Inserting.{Inserted, AllDiffer-inserted, flat_map-change_at, change_at-change_at}
 
 -- ## An untouched store
 
@@ -45,7 +45,7 @@ rows_of_nothing (s ∷ ss) e = let parts = append-nil_parts s.asked (all_asked s
 pub LacksPath-asked : {S O G : Type 0} (asked : List ℕ) (k : ℕ) (ss : List (ShardView S O G)) (path : List ℕ) → LacksPath ss path → LacksPath (change_at (asked_also asked) k ss) path
 LacksPath-asked asked k ss path l = rw (all_rows-asked asked k ss) l
 
-given_asked : {S O G : Type 0} (gp : G → List ℕ) (go : G → ℕ) (path : List ℕ) (k : ℕ) (ss : List (ShardView S O G)) → AreGiven gp go ss → AreGiven gp go (change_at (asked_also path) k ss)
+pub given_asked : {S O G : Type 0} (gp : G → List ℕ) (go : G → ℕ) (path : List ℕ) (k : ℕ) (ss : List (ShardView S O G)) → AreGiven gp go ss → AreGiven gp go (change_at (asked_also path) k ss)
 given_asked gp go path k [] g = tt
 given_asked {S} {O} {G} gp go path zero (s ∷ ss) g = (
   record {
@@ -135,6 +135,29 @@ file_map-kept {S} {O} {G} outcome bytes path row k ss inside same_path l =
     let found : same row.path path ≡ true = (bytes_eq-Decides row.path path).1 same_path in
     ap (λ rows. file_map outcome bytes rows path) added.now
     ∙ (file_map-lacking outcome bytes path added.before (row ∷ added.after) others ∙ rw found refl)
+
+-- a path that no row has isn't in the map
+pub file_map-none : {S O G : Type 0} (outcome : G → Outcome) (bytes : G → List ℕ) (path : List ℕ) (rows : List (KeptRow S O G)) → All (λ row. row.path ≢ path) rows → file_map outcome bytes rows path ≡ None
+file_map-none outcome bytes path rows l = ap (λ z. file_map outcome bytes z path) (sym (append-nil rows)) ∙ file_map-lacking outcome bytes path rows [] l
+
+pub contains_map : {A B : Type 0} (f : A → B) (xs : List A) (x : A) → Contains xs x → Contains (map f xs) (f x)
+contains_map f xs x (k, inside, at) = (k, subst (λ n. k < n) (sym (length-map xs f)) inside, get_or-map f xs k x (f x) inside ∙ ap f at)
+
+found_at : {S O G : Type 0} (outcome : G → Outcome) (bytes : G → List ℕ) (rows : List (KeptRow S O G)) (row : KeptRow S O G) (k : ℕ) → AllDiffer (paths_of rows) → k < length rows → get_or rows k row ≡ row → file_map outcome bytes rows row.path ≡ Some (row_content outcome bytes row)
+found_at outcome bytes [] row k differ inside at = absurd (omega arith)
+found_at outcome bytes (r ∷ rows) row zero differ inside at =
+    let found : same r.path row.path ≡ true = (bytes_eq-Decides r.path row.path).1 (ap (λ z. z.path) at) in
+    rw found (ap (λ z. Some (row_content outcome bytes z)) at)
+found_at {S} {O} {G} outcome bytes (r ∷ rows) row (suc k) differ inside at =
+    let below : k < length rows = omega arith in
+    let has : Contains (paths_of rows) row.path = contains_map (λ (z : KeptRow S O G). z.path) rows row (k, below, at) in
+    let other : r.path ≢ row.path = All-contains (λ q. r.path ≢ q) (paths_of rows) row.path differ.0 has in
+    file_map-lacking outcome bytes row.path (r ∷ []) rows (All-cons (λ (z : KeptRow S O G). z.path ≢ row.path) r [] other (All-nil _))
+    ∙ found_at outcome bytes rows row k differ.1 below at
+
+-- where no two rows have one path, the map has what each row stands for
+pub file_map-found : {S O G : Type 0} (outcome : G → Outcome) (bytes : G → List ℕ) (rows : List (KeptRow S O G)) (row : KeptRow S O G) → AllDiffer (paths_of rows) → Contains rows row → file_map outcome bytes rows row.path ≡ Some (row_content outcome bytes row)
+file_map-found outcome bytes rows row differ (k, inside, at) = found_at outcome bytes rows row k differ inside at
 
 -- ## A fresh store in which one path is asked for
 
