@@ -1,2 +1,5 @@
 pub mod LastSeparator
+pub mod OptionLemmas
+pub mod SizeLemmas
 pub mod Utf8Paths
+pub mod WalkLemmas

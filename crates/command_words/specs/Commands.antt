@@ -4,6 +4,7 @@ use Rattle.std.specs.Option.{option_map_or}
 use Rattle.std.specs.List.{list_all, starts_with}
 use Rattle.std.specs.Path.{rsplit_once}
 use Rattle.scan_model.specs.declared.Command.{Command}
+use Rattle.scan_model.specs.declared.command.Dialect.TheVariants.{Cxx20}
 use Rattle.scan_model.specs.Paths.{normal, join}
 use Rattle.scan_model.specs.TokenTests.{same}
 use Rattle.compile_db.specs.declared.Entry.{Entry}
@@ -51,4 +52,5 @@ command_of entry = record {
   settings = [];
   forced = [];
   search = record { quote = []; angled = []; system = []; after = [] };
+  dialect = Cxx20;
 }

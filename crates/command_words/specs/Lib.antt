@@ -1,1 +1,5 @@
 pub mod Commands
+pub mod Splitting
+pub mod Options
+pub mod Reading
+pub mod Jobs

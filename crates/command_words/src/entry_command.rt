@@ -5,7 +5,7 @@ ghost use Rattle.command_words.specs.Commands.{is_plain_word, are_plain_words, i
 use crate::object_name::object_name;
 use compile_db::{Entry, EntryWords};
 use path_search::{join, normal};
-use scan_model::{Command, Items, NoMemory, PathText, SearchList, Text};
+use scan_model::{Command, Dialect, Items, NoMemory, PathText, SearchList, Text};
 use std::alloc::Global;
 
 /// Whether the entry's words are read already: they stand in `arguments`, and none after the first begins with `-` but
@@ -63,11 +63,12 @@ pub fn read_command(alloc: Global, entry: &Entry) -> Result<Command, NoMemory>
             system: Items::new(alloc),
             after: Items::new(alloc),
         },
+        dialect: Dialect::Cxx20,
     })
 }
 
 // These bytes as a text of their own.
-fn text_of(alloc: Global, bytes: &[u8]) -> Result<Text, NoMemory>
+pub(crate) fn text_of(alloc: Global, bytes: &[u8]) -> Result<Text, NoMemory>
     requires { IsUtf8 bytes.now }
     ensures { IfOk result (λ text. text ≡ bytes.now) }
 {
