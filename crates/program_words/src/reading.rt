@@ -1,0 +1,175 @@
+ghost use Rattle.std.specs.Prelude.{◌≡◌, [], length, IfOk, OnOk, option_map};
+ghost use Rattle.std.specs.List.{All, slice_split};
+ghost use Rattle.clap.specs.Words.{found_of, rows_of, first_of};
+ghost use Rattle.clap.specs.Walk.{byte_or_zero};
+ghost use Rattle.scan_model.specs.Paths.{normal};
+ghost use Rattle.program_words.specs.Words.{IsParse, texts_of, is_known_format, workers_of, is_colon, with_part, folders_in, folders_of, settings_of, words_with, by_rows, by_parse, words_of, HasWorkers, IsShortWord, SettingsFit};
+
+use crate::options::command;
+use clap::ArgMatches;
+use clap::error::ErrorKind;
+use path_search::normal;
+use scan_model::{Items, NoMemory, PathText, Settings};
+use std::alloc::Global;
+
+/// The words are refused: they aren't those of the program's options, or name no database.
+#[derive(Clone, Copy, Debug, PartialEq, Eq)]
+pub struct Usage;
+
+/// What the program's words ask for. Paths are relative to the working folder.
+#[derive(Drop)]
+pub struct Words {
+    /// The path of the compilation database.
+    pub database: PathText,
+    /// How many workers there are to be, from 1 to 64.
+    pub workers: u32,
+    pub settings: Settings,
+}
+
+// The matches of the words; None exactly where `clap` finds a fault in them.
+fn parsed<'a>(alloc: Global, words: &'a [String]) -> Result<Option<ArgMatches<'a>>, NoMemory>
+    ensures { IfOk result (IsParse (texts_of words.entry.now)) }
+{
+    let command = command(alloc)?;
+    match command.try_get_matches_from(words) {
+        Ok(matches) => Ok(Some(matches)),
+        Err(error) => match error.kind() {
+            ErrorKind::OutOfMemory => Err(NoMemory),
+            _ => Ok(None),
+        },
+    }
+}
+
+// The value of an option.
+fn value<'a>(matches: &ArgMatches<'a>, name: &str) -> Option<&'a str>
+    ensures { option_map (λ text. text.now) result ≡ first_of name.now (rows_of (found_of matches.now)) }
+{
+    matches.get_str(name)
+}
+
+fn is_known_format(format: Option<&str>) -> bool
+    ensures { result ≡ is_known_format (option_map (λ text. text.now) format.entry) }
+{
+    match format {
+        Some(name) => name == "p1689",
+        None => false,
+    }
+}
+
+fn number_of(text: &str) -> u8
+    ensures { result ≡ byte_or_zero text.now }
+{
+    text.parse::<u8>().unwrap_or(0)
+}
+
+fn workers_of(text: Option<&str>) -> u32
+    ensures { result ≡ workers_of (option_map (λ text. text.now) text.entry) }
+{
+    match text {
+        Some(text) => u32::from(number_of(text)).min(64).max(1),
+        None => 4,
+    }
+}
+
+fn predefines_of(alloc: Global, path: Option<&str>) -> Result<Option<PathText>, NoMemory>
+    ensures { IfOk result (λ read. read
+        ≡ option_map (λ path. normal path) (option_map (λ text. text.now) path.entry)) }
+{
+    match path {
+        Some(path) => Ok(Some(normal(alloc, path.as_bytes())?)),
+        None => Ok(None),
+    }
+}
+
+// Adds the folder that a part names, unless it is empty.
+fn put_part(alloc: Global, folders: &mut Vec<PathText>, part: &[u8]) -> Result<(), NoMemory>
+    ensures { OnOk result (folders.new.items ≡ with_part folders.old.items part.now) }
+{
+    if !part.is_empty() {
+        folders.push(normal(alloc, part)?)?;
+    }
+    Ok(())
+}
+
+fn folders_in(alloc: Global, text: &[u8]) -> Result<Items<PathText>, NoMemory>
+    ensures { IfOk result (λ folders. folders ≡ folders_in (slice_split is_colon text.now)) }
+{
+    let mut folders = Vec::new(alloc);
+    'parts: for part in text.split(|byte| *byte == b':') {
+        put_part(alloc, &mut folders, part)?;
+    }
+    Ok(Items::of_vec(folders))
+}
+
+fn folders_of(alloc: Global, text: Option<&str>) -> Result<Items<PathText>, NoMemory>
+    ensures { IfOk result (λ folders. folders ≡ folders_of (option_map (λ text. text.now) text.entry)) }
+{
+    match text {
+        Some(text) => folders_in(alloc, text.as_bytes()),
+        None => Ok(Items::new(alloc)),
+    }
+}
+
+fn settings_of(alloc: Global, matches: &ArgMatches<'_>) -> Result<Settings, NoMemory>
+    ensures { IfOk result (λ settings. settings ≡ settings_of (rows_of (found_of matches.now))) }
+{
+    Ok(Settings {
+        predefines: predefines_of(alloc, value(matches, "predefines"))?,
+        program: folders_of(alloc, value(matches, "system-dirs"))?,
+    })
+}
+
+fn words_with(alloc: Global, matches: &ArgMatches<'_>, database: &str) -> Result<Words, NoMemory>
+    ensures { IfOk result (λ words. words ≡ words_with (rows_of (found_of matches.now)) database.now) }
+{
+    Ok(Words {
+        database: normal(alloc, database.as_bytes())?,
+        workers: workers_of(value(matches, "j")),
+        settings: settings_of(alloc, matches)?,
+    })
+}
+
+fn by_matches(alloc: Global, matches: &ArgMatches<'_>) -> Result<Result<Words, Usage>, NoMemory>
+    ensures { IfOk result (λ words. words ≡ by_rows (rows_of (found_of matches.now))) }
+{
+    if !is_known_format(value(matches, "format")) {
+        return Ok(Err(Usage));
+    }
+    match value(matches, "compilation-database") {
+        Some(database) => Ok(Ok(words_with(alloc, matches, database)?)),
+        None => Ok(Err(Usage)),
+    }
+}
+
+fn by_parse(alloc: Global, parse: &Option<ArgMatches<'_>>) -> Result<Result<Words, Usage>, NoMemory>
+    ensures { IfOk result (λ words. words ≡ by_parse parse.now) }
+{
+    match parse {
+        Some(matches) => by_matches(alloc, matches),
+        None => Ok(Err(Usage)),
+    }
+}
+
+fn read_words(alloc: Global, words: &Vec<String>) -> Result<Result<Words, Usage>, NoMemory>
+    ensures { IfOk result (λ read. read ≡ words_of (texts_of words.now.items)) }
+{
+    match parsed(alloc, words.as_slice()) {
+        Ok(parse) => by_parse(alloc, &parse),
+        Err(NoMemory) => Err(NoMemory),
+    }
+}
+
+/// What the words ask for. The first word is the program's name.
+///
+/// `--compilation-database` is the database's path, `-j` the number of workers, from 1 to 64 and 4 where it isn't given,
+/// `--predefines` the file of the compiler's own macros, `--system-dirs` folders between colons, of which empty ones are
+/// dropped, and `--format` is `p1689`. `Usage` comes exactly where `clap` finds a fault in the words, the format is
+/// another one, or no database is named. `Err` is want of memory alone.
+pub fn read(alloc: Global, words: &Vec<String>) -> Result<Result<Words, Usage>, NoMemory>
+    ensures reads { IfOk result (λ read. read ≡ words_of (texts_of words.now.items)) }
+    ensures workers { IfOk result (λ read. IfOk read HasWorkers) }
+    ensures fits { All IsShortWord words.now.items
+        → IfOk result (λ read. IfOk read (λ words. SettingsFit words.settings)) }
+{
+    read_words(alloc, words)
+}
