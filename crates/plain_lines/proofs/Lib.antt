@@ -1,0 +1,9 @@
+pub mod Chains
+pub mod WordLemmas
+pub mod Places
+pub mod PathLemmas
+pub mod GroupLemmas
+pub mod ConditionLemmas
+pub mod ActLemmas
+pub mod PragmaLemmas
+pub mod Utf8Lemmas

@@ -1,0 +1,8 @@
+use Rattle.scan_model.specs.Macros.{undef}
+use Rattle.macro_table.specs.Table.{macros_of}
+use Rattle.plain_lines.proofs.Utf8Lemmas.{utf8-undef, utf8-changes}
+use Rattle.plain_lines.proofs.definitions.undef_line.Goals as goal
+
+pub invariant_of-unit : goal.invariant_of-unit
+invariant_of-unit c = let before = macros_of c.args.unit.now.macros in
+    record { utf8 = utf8-changes c.args.unit.now.macros c.undef.new.self (undef before c.in-Some.name.text.now) c.args.unit.now.utf8 (utf8-undef before c.in-Some.name.text.now) c.undef.ensures }
