@@ -1,6 +1,8 @@
 //! The command that an entry of the compilation database asks for, as far as a scan needs it.
 //!
-//! So far the words of an entry are read where they ask for nothing: no option but `-c`.
+//! `split` reads one command line into its words as a POSIX shell quotes them; `job` reads the words of an entry
+//! by the table of compiler words: the dialect, the folders of the search, the definitions, the forced headers and the
+//! object that is written.
 #![tactic(auto)]
 
 mod bad_command;

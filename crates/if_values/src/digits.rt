@@ -79,7 +79,7 @@ pub(crate) fn plain_digits_len(base: u64, text: &[u8]) -> usize
 }
 
 /// The number that the digits among the bytes write; None exactly where it has no place in 64 bits.
-pub(crate) fn number(base: u64, text: &[u8]) -> Option<u64>
+pub fn number(base: u64, text: &[u8]) -> Option<u64>
     requires { 0 < base }
     ensures { result ≡ fitting (number_of base text.now) }
 {

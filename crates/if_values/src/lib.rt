@@ -21,6 +21,7 @@ mod operators;
 mod token_tests;
 
 pub use condition::value;
+pub use digits::number;
 pub use header_name::next_has;
 pub use scan_model::{CondFault, CondValue, HasAt, HasNext};
 
