@@ -24,7 +24,8 @@ use Rattle.command_words.specs.declared.options.WordClass.TheVariants.{Takes, Jo
 use Rattle.command_words.specs.declared.reading.Reading.{Reading}
 use Rattle.command_words.specs.Options.{class_of}
 use Rattle.command_words.specs.Reading as words
-use Rattle.command_words.specs.Jobs.{CommandFits, JobFits, job_of, job_of_words, job_by, words_of}
+use Rattle.scan_model.specs.Fits.{CommandFits, JobFits}
+use Rattle.command_words.specs.Jobs.{job_of, job_of_words, job_by, words_of}
 
 abbrev HasRoom : Setting → Type 0
 HasRoom setting = length (setting_text setting) ≤ file_limit

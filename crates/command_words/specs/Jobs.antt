@@ -1,14 +1,11 @@
 -- What is to be done for an entry of the database.
-use Rattle.std.specs.Prelude.{ℕ, ◌+◌, ◌≤◌, ⊤, List, drop, length, Option, unwrap_or, Result, Ok, Err}
-use Rattle.std.specs.List.{All}
+use Rattle.std.specs.Prelude.{ℕ, List, drop, Option, unwrap_or, Result, Ok, Err}
 use Rattle.scan_model.specs.declared.command.Command.{Command}
 use Rattle.scan_model.specs.declared.command.CommandFault.{CommandFault}
 use Rattle.scan_model.specs.declared.command.CommandFault.TheVariants as FaultIs
 use Rattle.scan_model.specs.declared.command.Job.{Job}
 use Rattle.scan_model.specs.declared.command.Job.TheVariants.{Run, Refused}
-use Rattle.scan_model.specs.Limits.{file_limit}
 use Rattle.scan_model.specs.Paths.{normal, join}
-use Rattle.scan_model.specs.WholeUnit.{setting_text}
 use Rattle.compile_db.specs.declared.Entry.{Entry}
 use Rattle.compile_db.specs.declared.EntryWords.{EntryWords}
 use Rattle.compile_db.specs.declared.EntryWords.TheVariants as WordsAre
@@ -51,14 +48,3 @@ job_of_words entry (Err bad) = Refused FaultIs.BadCommand
 -- the command, or the first of its faults from the left
 unfoldable pub job_of : Entry → Job
 job_of entry = job_of_words entry (words_of entry.words)
-
--- ## The size of a command
-
--- no setting's text is too long, and the settings, forced files and folders are together not too many
-pub record CommandFits (c : Command) : Type 0 where
-  pub texts : All (λ setting. length (setting_text setting) ≤ file_limit) c.settings
-  pub number : length c.settings + length c.forced + length c.search.quote + length c.search.angled + length c.search.system + length c.search.after ≤ file_limit
-
-abbrev pub JobFits : Job → Type 0
-JobFits (Run command) = CommandFits command
-JobFits (Refused fault) = ⊤

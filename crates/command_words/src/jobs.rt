@@ -2,10 +2,10 @@ ghost use Rattle.std.specs.Prelude.{◌≡◌, Ok, IfOk, IsUtf8, drop, unwrap_or
 ghost use Rattle.scan_model.specs.Paths.{normal};
 ghost use Rattle.command_words.specs.Commands.{object_of};
 ghost use Rattle.command_words.specs.Splitting.{split};
-ghost use Rattle.command_words.specs.Jobs.{output_of, command_by, job_of_words, job_of, JobFits};
+ghost use Rattle.command_words.specs.Jobs.{output_of, command_by, job_of_words, job_of};
+ghost use Rattle.scan_model.specs.Fits.{JobFits};
 
 use crate::bad_command::BadCommand;
-use crate::entry_command::text_of;
 use crate::object_name::object_name;
 use crate::reading::{Reading, read_words};
 use crate::splitting::split;
@@ -13,6 +13,17 @@ use compile_db::{Entry, EntryWords};
 use path_search::{join, normal};
 use scan_model::{Command, CommandFault, Job, NoMemory, PathText, Text};
 use std::alloc::Global;
+
+// These bytes as a text of their own.
+fn text_of(alloc: Global, bytes: &[u8]) -> Result<Text, NoMemory>
+    requires { IsUtf8 bytes.now }
+    ensures { IfOk result (λ text. text ≡ bytes.now) }
+{
+    match str::from_utf8(bytes) {
+        Ok(text) => Text::copy(alloc, text),
+        Err(_) => unreachable!(),
+    }
+}
 
 fn last_or_object(alloc: Global, last: Option<Text>, file: &str) -> Result<Text, NoMemory>
     ensures { IfOk result (λ output. output ≡ unwrap_or last (object_of file.now)) }

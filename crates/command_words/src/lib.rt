@@ -6,7 +6,6 @@
 #![tactic(auto)]
 
 mod bad_command;
-mod entry_command;
 mod jobs;
 mod object_name;
 mod options;
@@ -14,7 +13,6 @@ mod reading;
 mod splitting;
 
 pub use bad_command::BadCommand;
-pub use entry_command::{is_built, read_command};
 pub use jobs::job;
 pub use splitting::split;
 

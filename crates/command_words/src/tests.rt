@@ -1,4 +1,4 @@
-use crate::{BadCommand, is_built, job, read_command, split};
+use crate::{BadCommand, job, split};
 use compile_db::{Entry, EntryWords};
 use scan_model::{Command, CommandFault, Dialect, Items, Job, NoMemory, PathText, Setting, Text};
 use std::alloc::Global;
@@ -69,14 +69,14 @@ fn entry(alloc: Global, row: &Row, option: &str) -> Result<Entry, NoMemory> {
     })
 }
 
-fn is_as_said(rt: &impl Abort, alloc: Global, row: &Row) -> Result<(), NoMemory> {
+fn is_as_said(rt: &impl Abort, alloc: Global, row: &Row) -> Result<(), Fail> {
     let entry = entry(alloc, row, "-c")?;
-    assert!(rt; is_built(&entry));
-    let command = read_command(alloc, &entry)?;
+    let Job::Run(command) = job(alloc, &entry)? else {
+        return Err("refused".into());
+    };
     assert_eq!(rt; command.main.as_slice(), row.main.as_bytes());
     assert_eq!(rt; command.source.as_slice(), row.main.as_bytes());
     assert_eq!(rt; command.output.as_slice(), row.output.as_bytes());
-    assert!(rt; !is_built(&self::entry(alloc, row, "-I")?));
     Ok(())
 }
 

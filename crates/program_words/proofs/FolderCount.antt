@@ -17,7 +17,8 @@ use Rattle.scan_model.specs.Limits.{file_limit}
 use Rattle.program_words.specs.declared.reading.Usage.{Usage}
 use Rattle.program_words.specs.declared.reading.Words.{Words}
 use Rattle.program_words.specs.Options.{app}
-use Rattle.program_words.specs.Words.{SettingsFit, by_rows, folders_in, folders_of, is_colon, is_known_format, is_named, usage, value, words_of, words_with}
+use Rattle.scan_model.specs.Fits.{SettingsFit}
+use Rattle.program_words.specs.Words.{by_rows, folders_in, folders_of, is_colon, is_known_format, is_named, usage, value, words_of, words_with}
 use Rattle.program_words.proofs.ShortRows.{AreShort, IsNoCount, IsShort, IsShortRule, rows_short, value_short}
 
 part_count : (b : Bool) (part : List ℕ) (rest : List (List ℕ)) (m : ℕ) → b ≡ is_named part → length (filter is_named rest) ≤ m → length (if b then part ∷ filter is_named rest else filter is_named rest) ≤ length part + m

@@ -85,10 +85,6 @@ words_of words = if is_empty (fault_of app words) then by_rows (matches_of app w
 abbrev pub HasWorkers : Words → Type 0
 HasWorkers words = (1 ≤ words.workers) × (words.workers ≤ 64)
 
--- no more folders than a search can count
-abbrev pub SettingsFit : Settings → Type 0
-SettingsFit s = length s.program ≤ file_limit
-
 -- a word that is no longer than the words of a command line may be
 abbrev pub IsShortWord : String Global → Type 0
 IsShortWord word = length (string_bytes word) ≤ file_limit

@@ -3,7 +3,8 @@ ghost use Rattle.std.specs.List.{All, slice_split};
 ghost use Rattle.clap.specs.Words.{found_of, rows_of, first_of};
 ghost use Rattle.clap.specs.Walk.{byte_or_zero};
 ghost use Rattle.scan_model.specs.Paths.{normal};
-ghost use Rattle.program_words.specs.Words.{IsParse, texts_of, is_known_format, workers_of, is_colon, with_part, folders_in, folders_of, settings_of, words_with, by_rows, by_parse, words_of, HasWorkers, IsShortWord, SettingsFit};
+ghost use Rattle.program_words.specs.Words.{IsParse, texts_of, is_known_format, workers_of, is_colon, with_part, folders_in, folders_of, settings_of, words_with, by_rows, by_parse, words_of, HasWorkers, IsShortWord};
+ghost use Rattle.scan_model.specs.Fits.{SettingsFit};
 
 use crate::options::command;
 use clap::ArgMatches;

@@ -4,7 +4,7 @@ use Rattle.scan_model.specs.declared.command.CommandFault.{CommandFault}
 use Rattle.scan_model.specs.declared.command.CommandFault.TheVariants.{UnsupportedOption, BadCommand}
 use Rattle.scan_model.specs.declared.unit_end.Place.{Place}
 use Rattle.scan_model.specs.declared.unit_end.FaultKind.{FaultKind}
-use Rattle.scan_model.specs.declared.unit_end.FaultKind.TheVariants.{MainMissing, ReadFault, FileTooLarge, IncludeNotFound, IncludeSyntax, BadDefine, BadCondition, DivisionByZero, BadShift, BadNumber, ConditionTooDeep, Unbalanced, ErrorDirective, UnknownDirective, BadLine, ExpansionFault, ExpansionTooLong, TooDeep, TooManyEntered, BadModuleLine, SecondModule, PartitionOutsideModule, KeywordIsMacro, HeaderUnit, CounterUsed, NotYet}
+use Rattle.scan_model.specs.declared.unit_end.FaultKind.TheVariants.{MainMissing, ReadFault, FileTooLarge, IncludeNotFound, IncludeSyntax, BadDefine, BadCondition, DivisionByZero, BadShift, BadNumber, ConditionTooDeep, Unbalanced, ErrorDirective, UnknownDirective, BadLine, ExpansionFault, ExpansionTooLong, TooDeep, TooManyEntered, BadModuleLine, SecondModule, PartitionOutsideModule, KeywordIsMacro, HeaderUnit, CounterUsed}
 use Rattle.scan_model.specs.declared.unit_end.UnitEnd.{UnitEnd}
 use Rattle.scan_model.specs.declared.unit_end.UnitEnd.TheVariants as ends
 
@@ -42,7 +42,6 @@ fault_name PartitionOutsideModule = codes "PartitionOutsideModule"
 fault_name KeywordIsMacro = codes "KeywordIsMacro"
 fault_name HeaderUnit = codes "HeaderUnit"
 fault_name CounterUsed = codes "CounterUsed"
-fault_name NotYet = codes "NotYet"
 
 abbrev pub command_fault_name : CommandFault → List ℕ
 command_fault_name UnsupportedOption = codes "UnsupportedOption"

@@ -34,7 +34,6 @@ pub(crate) fn fault_name(kind: FaultKind) -> &'static str
         FaultKind::KeywordIsMacro => "KeywordIsMacro",
         FaultKind::HeaderUnit => "HeaderUnit",
         FaultKind::CounterUsed => "CounterUsed",
-        FaultKind::NotYet => "NotYet",
     }
 }
 

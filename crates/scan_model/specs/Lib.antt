@@ -35,3 +35,4 @@ pub mod WholeFile
 pub mod WholeUnit
 pub mod Answer
 pub mod Limits
+pub mod Fits

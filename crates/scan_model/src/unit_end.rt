@@ -54,8 +54,6 @@ pub enum FaultKind {
     KeywordIsMacro,
     HeaderUnit,
     CounterUsed,
-    /// The file has something that this scanner doesn't read yet.
-    NotYet,
 }
 
 /// A fault and its place.

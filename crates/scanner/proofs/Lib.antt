@@ -1,3 +1,3 @@
-pub mod ScanLemmas
-pub mod SinkLemmas
 pub mod LineLemmas
+pub mod PlanLemmas
+pub mod SinkLemmas

@@ -1,13 +1,24 @@
--- What a put does to a sink, whether it fails or not.
-use Rattle.std.proofs.Common.{ℕ, List, ◌++◌, length, Option, Some, None, Result, Ok, Err, OnOk, OnErr, sym, ◌∙◌, ap}
-use Rattle.std.proofs.Math.Seq.{take-length}
-use Rattle.file_source.specs.Sinks.{Adds, AddsPrefix}
+-- What a put does to a sink, and what none does.
+use Rattle.std.proofs.Common.{◌≡◌, ◌<◌, ◌^◌, ◌-◌, ℕ, List, Option, Result, Ok, Err, OnOk, OnErr, refl, inl, inr, arith}
+use Rattle.file_source.specs.Sinks.{Rose, Adds, AddsPrefix, next_count}
+use Rattle.scanner.specs.Sinks.{put_to, GotNothing, GotAll, GotPart, GotPut}
 
-Adds-AddsPrefix : (before : Option (List ℕ)) (piece : List ℕ) (after : Option (List ℕ)) → Adds before piece after → AddsPrefix before piece after
-Adds-AddsPrefix (Some old) piece after e = (length piece, e ∙ ap (λ p. Some (old ++ p)) (sym (take-length piece)))
-Adds-AddsPrefix None piece after e = e
+stays_fine : (before after : ℕ) → before < 2 ^ 64 - 1 → after ≡ before → ¬ (Rose before after)
+stays_fine before after few same rose = omega (arith, few, same, rose)
 
--- a beginning of the piece was put
-pub begun_either_way : {T E : Type 0} (r : Result T E) (before : Option (List ℕ)) (piece : List ℕ) (after : Option (List ℕ)) → OnOk r (Adds before piece after) → OnErr r (AddsPrefix before piece after) → AddsPrefix before piece after
-begun_either_way (Ok x) before piece after ok err = Adds-AddsPrefix before piece after ok
-begun_either_way (Err x) before piece after ok err = err
+module _ {K : Type 0} (held : K → Option (List ℕ)) (faults puts : K → ℕ) where
+  pub nothing_put : (sink : K) → faults sink < 2 ^ 64 - 1 → GotNothing (put_to held faults puts sink sink)
+  nothing_put sink few = record { same = refl; fine = stays_fine (faults sink) (faults sink) few refl; no_put = refl }
+
+  module _ {T E : Type 0} (before after : K) (text : List ℕ) where
+    pub all_put : (r : Result T E) → faults before < 2 ^ 64 - 1 → OnOk r (Adds (held before) text (held after)) → OnOk r (faults after ≡ faults before) → puts after ≡ next_count (puts before) → OnOk r (GotAll text (put_to held faults puts before after))
+    all_put (Ok x) few added fine once = record { added = added; fine = stays_fine (faults before) (faults after) few fine; once = once }
+    all_put (Err x) few added fine once = tt
+
+    pub part_put : (r : Result T E) → OnErr r (AddsPrefix (held before) text (held after)) → OnErr r (Rose (faults before) (faults after)) → puts after ≡ next_count (puts before) → OnErr r (GotPart text (put_to held faults puts before after))
+    part_put (Ok x) begun rose once = tt
+    part_put (Err x) begun rose once = record { begun = begun; failed = rose; once = once }
+
+    pub either_put : (r : Result T E) → OnOk r (GotAll text (put_to held faults puts before after)) → OnErr r (GotPart text (put_to held faults puts before after)) → GotPut text (put_to held faults puts before after)
+    either_put (Ok x) all part = inl all
+    either_put (Err x) all part = inr part

@@ -1,11 +1,15 @@
 -- What a run prints for the ends of its commands, and its status.
-use Rattle.std.specs.Prelude.{◌≡◌, ◌⊎◌, ℕ, suc, Bool, true, false, if◌then◌else◌, List, [], ◌∷◌, ◌++◌}
+use Rattle.std.specs.Prelude.{◌≡◌, ◌≢◌, ◌⊎◌, ℕ, suc, Bool, true, false, if◌then◌else◌, List, [], ◌∷◌, ◌++◌}
 use Rattle.std.specs.List.{list_any}
-use Rattle.scan_model.specs.declared.UnitEnd.{UnitEnd}
-use Rattle.scan_model.specs.declared.UnitEnd.TheVariants.{Record, Stopped, Refused, NoMemory}
+use Rattle.scan_model.specs.declared.unit_end.UnitEnd.{UnitEnd}
+use Rattle.scan_model.specs.declared.unit_end.UnitEnd.TheVariants.{Record, Stopped, Refused, NoMemory}
 use Rattle.p1689_writer.specs.Document.{document}
 use Rattle.report.specs.FaultLines.{fault_line}
-use Rattle.scanner.specs.Sinks.{Change, GotNothing, GotAll, GotPart}
+use Rattle.scanner.specs.declared.status.Status.{Status}
+use Rattle.scanner.specs.declared.status.Status.TheVariants.{Fine, SomeFailed, SinkFault}
+use Rattle.scanner.specs.declared.status.Status.TheVariants as Statuses
+use Rattle.scanner.specs.Statuses.{number}
+use Rattle.scanner.specs.Sinks.{Change, GotNothing, GotAll, GotAny, GotPart}
 
 abbrev pub is_record : UnitEnd → Bool
 is_record (Record record_) = true
@@ -34,30 +38,31 @@ lines_from number (end ∷ ends) = line_of number end ++ lines_from (suc number)
 abbrev pub diagnostics : List UnitEnd → List ℕ
 diagnostics ends = lines_from 1 ends
 
--- 7 where a command found no memory, else 1 where one failed, else 0
-abbrev pub status_of : List UnitEnd → ℕ
-status_of ends = if list_any is_no_memory ends then 7 else if list_any is_failure ends then 1 else 0
+-- how a run with these ends ends: some command found no memory, or else some failed, or else all is fine
+abbrev pub status_of : List UnitEnd → Status
+status_of ends = if list_any is_no_memory ends then Statuses.NoMemory else if list_any is_failure ends then SomeFailed else Fine
 
 -- the same where a sink failed
-abbrev pub failed_status : List UnitEnd → ℕ
-failed_status ends = if list_any is_no_memory ends then 7 else 6
+abbrev pub failed_status : List UnitEnd → Status
+failed_status ends = if list_any is_no_memory ends then Statuses.NoMemory else SinkFault
 
--- the document was put to the output, and then the lines to the error output
+-- the document was put to the output, and then the lines, where there are any, to the error output
 pub record PrintedAll (ends : List UnitEnd) (out err : Change) (status : ℕ) : Type 0 where
-  pub status_is : status ≡ status_of ends
+  pub status_is : status ≡ number (status_of ends)
   pub document_put : GotAll (document ends) out
-  pub lines_put : GotAll (diagnostics ends) err
+  pub lines_put : GotAny (diagnostics ends) err
 
 -- the output failed, and nothing was put to the error output
 pub record OutputFailed (ends : List UnitEnd) (out err : Change) (status : ℕ) : Type 0 where
-  pub status_is : status ≡ failed_status ends
+  pub status_is : status ≡ number (failed_status ends)
   pub document_begun : GotPart (document ends) out
   pub no_lines : GotNothing err
 
--- the error output failed
+-- there are lines, and the error output failed
 pub record LinesFailed (ends : List UnitEnd) (out err : Change) (status : ℕ) : Type 0 where
-  pub status_is : status ≡ failed_status ends
+  pub status_is : status ≡ number (failed_status ends)
   pub document_put : GotAll (document ends) out
+  pub some_lines : diagnostics ends ≢ []
   pub lines_begun : GotPart (diagnostics ends) err
 
 abbrev pub IsPrinted : List UnitEnd → Change → Change → ℕ → Type 0

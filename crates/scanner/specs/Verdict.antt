@@ -1,47 +1,78 @@
 -- What a run has to do, by its words and by what the one read of the database gave.
-use Rattle.std.specs.Prelude.{ℕ, List, [], ◌∷◌, Option, Some, None, Result, Ok, Err, if◌then◌else◌}
-use Rattle.scan_model.specs.declared.Outcome.{Outcome}
-use Rattle.scan_model.specs.declared.Outcome.TheVariants.{Present, Absent, Failed, Big, NoMemory}
-use Rattle.compile_db.specs.declared.Entry.{Entry}
-use Rattle.compile_db.specs.declared.DbFault.{DbFault}
-use Rattle.compile_db.specs.declared.DbFault.TheVariants as FaultIs
-use Rattle.compile_db.specs.Database.{database}
-use Rattle.command_words.specs.Commands.{is_built, command_of}
+use Rattle.std.specs.Prelude.{◌≤◌, ⊤, ℕ, List, length, map, All, Option, Some, None, option_map, Result, Ok, Err}
+use Rattle.scan_model.specs.declared.command.Settings.{Settings}
+use Rattle.scan_model.specs.Fits.{JobFits, SettingsFit}
+use Rattle.scan_model.specs.declared.outcome.Outcome.{Outcome}
+use Rattle.scan_model.specs.declared.outcome.Outcome.TheVariants.{Present, Absent, Failed, Big, NoMemory}
+use Rattle.program_words.specs.declared.reading.Words.{Words}
+use Rattle.program_words.specs.declared.reading.Usage.{Usage}
+use Rattle.compile_db.specs.declared.entry.Entry.{Entry}
+use Rattle.compile_db.specs.declared.database.DbFault.{DbFault}
+use Rattle.compile_db.specs.declared.database.DbFault.TheVariants as FaultIs
+use Rattle.compile_db.specs.Database.{database, max_entries}
+use Rattle.command_words.specs.Jobs.{job_of}
+use Rattle.scanner.specs.declared.verdict.Plan.{Plan}
 use Rattle.scanner.specs.declared.verdict.Verdict.{Verdict}
 use Rattle.scanner.specs.declared.verdict.Verdict.TheVariants.{Refuse, Scan}
 use Rattle.scanner.specs.declared.refusal.Refusal.{Refusal}
-use Rattle.scanner.specs.declared.refusal.Refusal.TheVariants.{Usage, DbAbsent, DbFailed, DbBig, NotJson, NotArray, BadEntry, NotBuilt}
+use Rattle.scanner.specs.declared.refusal.Refusal.TheVariants as RefusalIs
 
--- so far a database must have one entry, of words that are read already
-abbrev pub of_entries : List Entry → Verdict
-of_entries (entry ∷ []) = if is_built entry then Scan (command_of entry) else Refuse NotBuilt
-of_entries entries = Refuse NotBuilt
+-- ## What the words and the read say
+
+-- the database's path, where the words name one
+abbrev pub database_path : Result Words Usage → Option (List ℕ)
+database_path (Ok words) = Some words.database
+database_path (Err usage) = None
+
+-- what a read gave: its outcome, and its bytes
+pub record Read : Type 0 where
+  pub outcome : Outcome
+  pub bytes : List ℕ
+
+-- of what a source gave, where there was a read
+abbrev pub read_of : {G : Type 0} → (G → Outcome) → (G → List ℕ) → Option G → Option Read
+read_of outcome bytes given = option_map (λ g. record { outcome = outcome g; bytes = bytes g }) given
+
+-- ## The verdict
+
+-- a command for each entry, in order, with the settings of the words
+abbrev pub plan_of : Settings → List Entry → Plan
+plan_of settings entries = record { jobs = map (λ entry. job_of entry) entries; settings = settings }
 
 abbrev pub of_fault : DbFault → Refusal
-of_fault FaultIs.NotJson = NotJson
-of_fault FaultIs.NotArray = NotArray
-of_fault (FaultIs.BadEntry number) = BadEntry number
-of_fault (FaultIs.TooMany count) = NotBuilt
+of_fault FaultIs.NotJson = RefusalIs.NotJson
+of_fault FaultIs.NotArray = RefusalIs.NotArray
+of_fault (FaultIs.BadEntry number) = RefusalIs.BadEntry number
+of_fault (FaultIs.TooMany count) = RefusalIs.TooMany
 
-abbrev pub of_database : Result (List Entry) DbFault → Verdict
-of_database (Ok entries) = of_entries entries
-of_database (Err fault) = Refuse (of_fault fault)
+abbrev pub of_database : Settings → Result (List Entry) DbFault → Verdict
+of_database settings (Ok entries) = Scan (plan_of settings entries)
+of_database settings (Err fault) = Refuse (of_fault fault)
 
 -- none where the read found no memory
-abbrev pub of_read : Outcome → List ℕ → Option Verdict
-of_read Present bytes = Some (of_database (database bytes))
-of_read Absent bytes = Some (Refuse DbAbsent)
-of_read Failed bytes = Some (Refuse DbFailed)
-of_read Big bytes = Some (Refuse DbBig)
-of_read NoMemory bytes = None
+abbrev pub of_read : Settings → Outcome → List ℕ → Option Verdict
+of_read settings Present bytes = Some (of_database settings (database bytes))
+of_read settings Absent bytes = Some (Refuse RefusalIs.DbAbsent)
+of_read settings Failed bytes = Some (Refuse RefusalIs.DbFailed)
+of_read settings Big bytes = Some (Refuse RefusalIs.DbBig)
+of_read settings NoMemory bytes = None
 
--- the outcome of a read, and its bytes
-abbrev pub Read : Type 0
-Read = Outcome × List ℕ
+-- Of what the words ask for, and of what the database's read gave. None where memory was wanting before there was a
+-- verdict.
+abbrev pub verdict : Result Words Usage → Option Read → Option Verdict
+verdict (Err usage) None = Some (Refuse RefusalIs.Usage)
+verdict (Err usage) (Some read) = None
+verdict (Ok words) None = None
+verdict (Ok words) (Some read) = of_read words.settings read.outcome read.bytes
 
--- Of the path that the words name, and of what its read gave. None where memory was wanting before there was a verdict.
-abbrev pub verdict : Option (List ℕ) → Option Read → Option Verdict
-verdict None None = Some (Refuse Usage)
-verdict None (Some read) = None
-verdict (Some path) None = None
-verdict (Some path) (Some read) = of_read read.0 read.1
+-- ## The size of a plan
+
+-- a scan takes the commands and the settings, and there are no more commands than a database may have
+pub record PlanFits (plan : Plan) : Type 0 where
+  pub jobs : All JobFits plan.jobs
+  pub settings : SettingsFit plan.settings
+  pub few : length plan.jobs ≤ max_entries
+
+abbrev pub VerdictFits : Verdict → Type 0
+VerdictFits (Refuse refusal) = ⊤
+VerdictFits (Scan plan) = PlanFits plan

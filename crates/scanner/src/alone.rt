@@ -1,30 +1,31 @@
-ghost use Rattle.std.specs.Prelude.{◌≡◌, ◌<◌, ◌≤◌, ◌-◌, ◌^◌, [], Some, All, Contains, IfSome, string_len};
-ghost use Rattle.std.specs.Option.{option_map};
+ghost use Rattle.std.specs.Prelude.{◌≡◌, ◌<◌, ◌≤◌, ◌-◌, ◌^◌, [], Some, All, IfSome, option_map, string_len};
 ghost use Rattle.file_source.specs.Givens.{IsGiven};
-ghost use Rattle.shard_cache.specs.Rows.{all_asked};
-ghost use Rattle.scanner.specs.Words.{database_path, texts_of};
-ghost use Rattle.scanner.specs.Verdict.{verdict};
-ghost use Rattle.shard_cache.specs.StoreMap.{IsOneMap, IsUntouched};
-ghost use Rattle.scanner.specs.Sinks.{change};
-ghost use Rattle.unit_scan.specs.PlainAnswer.{main_paths};
+ghost use Rattle.program_words.specs.Words.{texts_of, words_of};
+ghost use Rattle.shard_cache.specs.Rows.{all_rows, all_asked, all_origins};
+ghost use Rattle.shard_cache.specs.StoreMap.{file_map, IsOneMap, IsUntouched};
+ghost use Rattle.job_scan.specs.Ends.{IsLookedAt};
+ghost use Rattle.scanner.specs.Verdict.{database_path, read_of, verdict, PlanFits, VerdictFits};
 ghost use Rattle.scanner.specs.Asked.{AsksDatabase};
-ghost use Rattle.scanner.specs.Run.{IsRun, looked, IsRefusedOr};
+ghost use Rattle.scanner.specs.Statuses.{number};
+ghost use Rattle.scanner.specs.Sinks.{put_to};
+ghost use Rattle.scanner.specs.Run.{IsRun, IsRefusedOr, IsSought};
 
-use crate::command_scan::scan_command;
-use crate::printing::{print_ends, tell_no_memory};
+use crate::printing::{print_ends, put, tell_no_memory};
 use crate::refusal::Refusal;
-use crate::verdict::{Verdict, read_verdict};
+use crate::status::Status;
+use crate::verdict::{Plan, Verdict, read_verdict};
 use crate::{Ended, Outside};
 use file_source::{Sink, Source};
-use scan_model::{Command, Items, NoMemory};
+use job_scan::scan_jobs;
+use scan_model::NoMemory;
 use shard_cache::Store;
 use std::alloc::Global;
 
 /// Reads the words and the database, scans its commands on this thread, and prints. It waits for nobody.
 ///
-/// The statuses: 0 where every command has its record, 1 where some command ended with a fault, 2 for words that the
-/// usage line doesn't allow, 3 for a database that can't be read, 4 for one that isn't in form, 6 where a sink failed,
-/// 7 where memory was wanting, and 8 for a database with something that isn't read yet.
+/// The statuses: 0 where every command has its record, 1 where some command ended without one, 2 for words that are
+/// refused, 3 for a database that can't be read, 4 for one that isn't well-formed, 5 for one with too many entries, 6
+/// where a sink failed, and 7 where memory was wanting.
 pub fn scan_alone<S: Source, K: Sink, E: Sink>(
     alloc: Global,
     words: &Vec<String>,
@@ -40,24 +41,27 @@ pub fn scan_alone<S: Source, K: Sink, E: Sink>(
 
     // The run does what its verdict says, or finds no memory.
     ensures run { IsRun S.given_outcome S.given_bytes
-        (verdict (database_path (texts_of words.now.items)) (option_map (λ g. (S.given_outcome g, S.given_bytes g)) result.db_given))
-        result.outside.store
-        (change (K.held out.old) (K.held out.new) (K.faults out.old) (K.faults out.new))
-        (change (E.held err.old) (E.held err.new) (E.faults err.old) (E.faults err.new)) result.status }
+        (verdict (words_of (texts_of words.now.items)) (read_of S.given_outcome S.given_bytes result.db_given)) result.outside.store
+        (put_to K.held K.faults K.puts out.old out.new) (put_to E.held E.faults E.puts err.old err.new) result.status }
 
     // What the database's read gave has its causes, and is of the database's own source.
     ensures given { IfSome result.db_given (λ g. IsGiven (S.given_outcome g) (S.given_bytes g) (S.given_faults g) (S.given_came g)) }
     ensures given_here { IfSome result.db_given (λ g. S.given_origin g ≡ S.origin outside.db) }
 
     // The database's source was asked for the database alone, at most once.
-    ensures db_asked { AsksDatabase (database_path (texts_of words.now.items)) (S.asked result.outside.db) (option_map S.given_path result.db_given) }
+    ensures db_asked { AsksDatabase (database_path (words_of (texts_of words.now.items))) (S.asked result.outside.db)
+        (option_map S.given_path result.db_given) }
 
     // No path was asked for twice, and the rows are one map of what the reads gave.
     ensures one_map { IsOneMap S.given_path S.given_origin result.outside.store }
 
-    // Only what the command looks at was asked for.
-    ensures looked { All (λ path. Contains (looked (verdict (database_path (texts_of words.now.items))
-        (option_map (λ g. (S.given_outcome g, S.given_bytes g)) result.db_given))) path) (all_asked result.outside.store) }
+    // Only what some command looks at was asked for.
+    ensures looked { All (IsSought (file_map S.given_outcome S.given_bytes (all_rows result.outside.store))
+        (verdict (words_of (texts_of words.now.items)) (read_of S.given_outcome S.given_bytes result.db_given))) (all_asked result.outside.store) }
+
+    // The sources are those that were handed in.
+    ensures db_origin { S.origin result.outside.db ≡ S.origin outside.db }
+    ensures origins { all_origins result.outside.store ≡ all_origins outside.store }
 {
     let Outside { mut db, mut store } = outside;
     let (verdict, db_given) = read_verdict(alloc, words, &mut db);
@@ -66,7 +70,7 @@ pub fn scan_alone<S: Source, K: Sink, E: Sink>(
         Err(NoMemory) => tell_no_memory(err),
     };
     Ended {
-        status,
+        status: status.number(),
         db_given,
         outside: Outside { db, store },
     }
@@ -78,29 +82,30 @@ fn carry_out<S: Source, K: Sink, E: Sink>(
     store: &mut Store<S>,
     out: &mut K,
     err: &mut E,
-) -> u8
+) -> Status
+    requires fits { VerdictFits verdict.now }
     requires fresh_store { IsUntouched store.old }
     requires out_count { K.faults out.old < 2 ^ 64 - 1 }
     requires err_count { E.faults err.old < 2 ^ 64 - 1 }
     ensures run { IsRun S.given_outcome S.given_bytes (Some verdict.now) store.new
-        (change (K.held out.old) (K.held out.new) (K.faults out.old) (K.faults out.new))
-        (change (E.held err.old) (E.held err.new) (E.faults err.old) (E.faults err.new)) result }
+        (put_to K.held K.faults K.puts out.old out.new) (put_to E.held E.faults E.puts err.old err.new) (number result) }
     ensures one_map { IsOneMap S.given_path S.given_origin store.new }
-    ensures looked { All (λ path. Contains (looked (Some verdict.now)) path) (all_asked store.new) }
+    ensures looked { All (IsSought (file_map S.given_outcome S.given_bytes (all_rows store.new)) (Some verdict.now)) (all_asked store.new) }
+    ensures origins { all_origins store.new ≡ all_origins store.old }
 {
     match verdict {
         Verdict::Refuse(refusal) => refuse(alloc, *refusal, err),
-        Verdict::Scan(command) => scan(alloc, command, store, out, err),
+        Verdict::Scan(plan) => scan(alloc, plan, store, out, err),
     }
 }
 
-fn refuse<E: Sink>(alloc: Global, refusal: Refusal, err: &mut E) -> u8
+fn refuse<E: Sink>(alloc: Global, refusal: Refusal, err: &mut E) -> Status
     requires { E.faults err.old < 2 ^ 64 - 1 }
-    ensures { IsRefusedOr refusal (change (E.held err.old) (E.held err.new) (E.faults err.old) (E.faults err.new)) result }
+    ensures { IsRefusedOr refusal (put_to E.held E.faults E.puts err.old err.new) (number result) }
 {
     match refusal.text(alloc) {
         Ok(text) => {
-            let _ = err.put(text.as_bytes());
+            let _ = put(text.as_bytes(), err);
             refusal.status()
         }
         Err(NoMemory) => tell_no_memory(err),
@@ -109,26 +114,24 @@ fn refuse<E: Sink>(alloc: Global, refusal: Refusal, err: &mut E) -> u8
 
 fn scan<S: Source, K: Sink, E: Sink>(
     alloc: Global,
-    command: &Command,
+    plan: &Plan,
     store: &mut Store<S>,
     out: &mut K,
     err: &mut E,
-) -> u8
+) -> Status
+    requires fits { PlanFits plan.now }
     requires fresh_store { IsUntouched store.old }
     requires out_count { K.faults out.old < 2 ^ 64 - 1 }
     requires err_count { E.faults err.old < 2 ^ 64 - 1 }
-    ensures run { IsRun S.given_outcome S.given_bytes (Some (Verdict.Scan command.now)) store.new
-        (change (K.held out.old) (K.held out.new) (K.faults out.old) (K.faults out.new))
-        (change (E.held err.old) (E.held err.new) (E.faults err.old) (E.faults err.new)) result }
+    ensures run { IsRun S.given_outcome S.given_bytes (Some (Verdict.Scan plan.now)) store.new
+        (put_to K.held K.faults K.puts out.old out.new) (put_to E.held E.faults E.puts err.old err.new) (number result) }
     ensures one_map { IsOneMap S.given_path S.given_origin store.new }
-    ensures looked { All (λ path. Contains (main_paths command.now) path) (all_asked store.new) }
+    ensures looked { All (IsLookedAt (file_map S.given_outcome S.given_bytes (all_rows store.new)) plan.now.settings plan.now.jobs)
+        (all_asked store.new) }
+    ensures origins { all_origins store.new ≡ all_origins store.old }
 {
-    let Ok(end) = scan_command(alloc, command, store) else {
-        return tell_no_memory(err);
-    };
-    let mut ends = Items::new(alloc);
-    if ends.push(end).is_err() {
-        return tell_no_memory(err);
+    match scan_jobs(alloc, plan.jobs.as_slice(), &plan.settings, store) {
+        Ok(ends) => print_ends(alloc, &ends, out, err),
+        Err(NoMemory) => tell_no_memory(err),
     }
-    print_ends(alloc, &ends, out, err)
 }

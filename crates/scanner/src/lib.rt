@@ -5,13 +5,11 @@
 #![tactic(auto)]
 
 mod alone;
-mod command_scan;
 mod outside;
 mod printing;
-mod reading;
 mod refusal;
+mod status;
 mod verdict;
-mod words;
 
 pub use alone::scan_alone;
 pub use outside::{Ended, Outside};

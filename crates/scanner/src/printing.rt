@@ -1,27 +1,29 @@
-ghost use Rattle.std.specs.Prelude.{◌≡◌, ◌<◌, ◌-◌, ◌^◌, ◌++◌, IfOk, OnOk, length};
+ghost use Rattle.std.specs.Prelude.{◌≡◌, ◌≢◌, ◌<◌, ◌-◌, ◌^◌, ◌++◌, [], IfOk, OnOk, OnErr, length};
 ghost use Rattle.std.specs.List.{list_any};
+ghost use Rattle.scanner.specs.Statuses.{number};
 ghost use Rattle.scanner.specs.Printed.{is_record, is_no_memory, is_failure, line_of, diagnostics, status_of, failed_status};
 ghost use Rattle.scanner.specs.Run.{IsPrintedUnlessNoMemory, IsToldNoMemory};
-ghost use Rattle.scanner.specs.Sinks.{change};
+ghost use Rattle.scanner.specs.Sinks.{put_to, GotAll, GotAny, GotPart, GotPut};
 
-use file_source::Sink;
+use crate::status::Status;
+use file_source::{Failed, Sink};
 use report::fault_line;
-use scan_model::{Bytes, Items, NoMemory, UnitEnd};
+use scan_model::{Items, NoMemory, UnitEnd};
 use std::alloc::Global;
 
-/// Prints the ends: the document to `out`, and a line for each end that is no record to `err`. All texts are made before
-/// the first put. The answer is the program's status.
+/// Prints the ends: the document to `out`, and then the lines of the ends that are no record, where there are any, to
+/// `err`. All texts are made before the first put. The answer is how the run ends.
 pub(crate) fn print_ends<K: Sink, E: Sink>(
     alloc: Global,
     ends: &Items<UnitEnd>,
     out: &mut K,
     err: &mut E,
-) -> u8
+) -> Status
     requires few { length ends.now < 2 ^ 32 - 1 }
     requires out_count { K.faults out.old < 2 ^ 64 - 1 }
     requires err_count { E.faults err.old < 2 ^ 64 - 1 }
-    ensures { IsPrintedUnlessNoMemory ends.now (change (K.held out.old) (K.held out.new) (K.faults out.old) (K.faults out.new))
-        (change (E.held err.old) (E.held err.new) (E.faults err.old) (E.faults err.new)) result }
+    ensures { IsPrintedUnlessNoMemory ends.now
+        (put_to K.held K.faults K.puts out.old out.new) (put_to E.held E.faults E.puts err.old err.new) (number result) }
 {
     let Ok(document) = p1689_writer::text(alloc, ends) else {
         return tell_no_memory(err);
@@ -29,22 +31,45 @@ pub(crate) fn print_ends<K: Sink, E: Sink>(
     let Ok(lines) = fault_lines(alloc, ends.as_slice()) else {
         return tell_no_memory(err);
     };
-    if out.put(document.as_slice()).is_err() {
+    if put(document.as_slice(), out).is_err() {
         return failed_status(ends.as_slice());
     }
-    if !lines.is_empty() && err.put(&lines).is_err() {
+    if put_any(&lines, err).is_err() {
         return failed_status(ends.as_slice());
     }
     status_of(ends.as_slice())
 }
 
-/// The status of a run that found no memory, which it tells the error output as far as it can.
-pub(crate) fn tell_no_memory<E: Sink>(err: &mut E) -> u8
-    ensures status { result ≡ 7 }
-    ensures told { IsToldNoMemory (E.held err.old) (E.held err.new) }
+/// Tells the error output, as far as it can, that the run found no memory, and answers that.
+pub(crate) fn tell_no_memory<E: Sink>(err: &mut E) -> Status
+    requires { E.faults err.old < 2 ^ 64 - 1 }
+    ensures { IsToldNoMemory (put_to E.held E.faults E.puts err.old err.new) (number result) }
 {
-    let _ = err.put(b"no memory\n");
-    7
+    let _ = put(b"no memory\n", err);
+    Status::NoMemory
+}
+
+/// Puts the text as one piece.
+pub(crate) fn put<K: Sink>(text: &[u8], sink: &mut K) -> Result<(), Failed>
+    requires { K.faults sink.old < 2 ^ 64 - 1 }
+    ensures all { OnOk result (GotAll text.now (put_to K.held K.faults K.puts sink.old sink.new)) }
+    ensures part { OnErr result (GotPart text.now (put_to K.held K.faults K.puts sink.old sink.new)) }
+    ensures either { GotPut text.now (put_to K.held K.faults K.puts sink.old sink.new) }
+{
+    sink.put(text)
+}
+
+// Puts the text as one piece, where there is any.
+fn put_any<K: Sink>(text: &[u8], sink: &mut K) -> Result<(), Failed>
+    requires { K.faults sink.old < 2 ^ 64 - 1 }
+    ensures all { OnOk result (GotAny text.now (put_to K.held K.faults K.puts sink.old sink.new)) }
+    ensures some { OnErr result (text.now ≢ []) }
+    ensures part { OnErr result (GotPart text.now (put_to K.held K.faults K.puts sink.old sink.new)) }
+{
+    if text.is_empty() {
+        return Ok(());
+    }
+    put(text, sink)
 }
 
 fn fault_lines(alloc: Global, ends: &[UnitEnd]) -> Result<Vec<u8>, NoMemory>
@@ -99,20 +124,24 @@ fn has_failure(ends: &[UnitEnd]) -> bool
     ends.iter().any(|end| is_failure(end))
 }
 
-fn status_of(ends: &[UnitEnd]) -> u8
+fn status_of(ends: &[UnitEnd]) -> Status
     ensures { result ≡ status_of ends.now }
 {
     if has_no_memory(ends) {
-        7
+        Status::NoMemory
     } else if has_failure(ends) {
-        1
+        Status::SomeFailed
     } else {
-        0
+        Status::Fine
     }
 }
 
-fn failed_status(ends: &[UnitEnd]) -> u8
+fn failed_status(ends: &[UnitEnd]) -> Status
     ensures { result ≡ failed_status ends.now }
 {
-    if has_no_memory(ends) { 7 } else { 6 }
+    if has_no_memory(ends) {
+        Status::NoMemory
+    } else {
+        Status::SinkFault
+    }
 }

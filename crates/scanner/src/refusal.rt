@@ -1,6 +1,7 @@
 ghost use Rattle.std.specs.Prelude.{◌≡◌, IfOk, string_bytes};
 
-use scan_model::{Bytes, NoMemory};
+use crate::status::Status;
+use scan_model::NoMemory;
 use std::alloc::Global;
 
 /// Why a run ends before any command is scanned.
@@ -20,21 +21,21 @@ pub(crate) enum Refusal {
     NotArray,
     /// The entry of this number, from 1, is the first that isn't well-formed.
     BadEntry(u64),
-    /// The database is in form, and has something that isn't read yet.
-    NotBuilt,
+    /// The database has more entries than it may have.
+    TooMany,
 }
 
 impl Refusal {
-    ghost use Rattle.scanner.specs.Refusals.{status_of, text_of};
+    ghost use Rattle.scanner.specs.Refusals.{refused_status, text_of};
 
-    pub(crate) fn status(self) -> u8
-        ensures { result ≡ status_of self }
+    pub(crate) fn status(self) -> Status
+        ensures { result ≡ refused_status self }
     {
         match self {
-            Refusal::Usage => 2,
-            Refusal::DbAbsent | Refusal::DbFailed | Refusal::DbBig => 3,
-            Refusal::NotJson | Refusal::NotArray | Refusal::BadEntry(_) => 4,
-            Refusal::NotBuilt => 8,
+            Refusal::Usage => Status::Usage,
+            Refusal::DbAbsent | Refusal::DbFailed | Refusal::DbBig => Status::DbUnread,
+            Refusal::NotJson | Refusal::NotArray | Refusal::BadEntry(_) => Status::BadDb,
+            Refusal::TooMany => Status::TooMany,
         }
     }
 
@@ -52,7 +53,7 @@ impl Refusal {
             Refusal::BadEntry(number) => {
                 return Ok(format!(in alloc; "bad database: entry {number}\n")?);
             }
-            Refusal::NotBuilt => "not built yet\n",
+            Refusal::TooMany => "too many commands\n",
         };
         Ok(String::from_str(alloc, text)?)
     }

@@ -1,8 +1,18 @@
 ghost use Rattle.std.specs.Prelude.{◌≡◌, [], All, IfOk, vec_len};
 ghost use Rattle.shard_cache.specs.StoreMap.{IsUntouched};
 
+mod inputs;
+mod limits;
+mod units;
+
+use self::inputs::{
+    B_REQUIRES_B, BOTH_REQUIRE_NONE, C_REQUIRES_C, NO_RULES, ONE_M, ONE_U, PARTITION_P_OF_M,
+    PROVIDES_M, REFUSED, SECOND_IS_BAD, THREE, TWO, U_REQUIRES_A, U_REQUIRES_M_AND_N,
+    U_REQUIRES_V_W_AND_K, USAGE, USUAL_DATABASE, USUAL_DOCUMENT, USUAL_FILES, USUAL_WORDS,
+    WITH_FOLDER,
+};
 use crate::{Outside, scan_alone};
-use file_source::{MemorySink, MemorySource, Scripted, ScriptedOutcome, Source};
+use file_source::{MemorySink, MemorySource, Scripted, ScriptedOutcome, Sink, Source};
 use path_search::normal;
 use scan_model::{Bytes, Items};
 use shard_cache::Store;
@@ -10,194 +20,335 @@ use std::alloc::Global;
 use std::process::Abort;
 use std::test::Fail;
 
-// What a file of a case is.
-#[derive(Clone, Copy)]
-enum Has {
-    Text(&'static str),
-    Nothing,
-    Failure,
-}
-
-// One run: its words, the database at /p/db.json, and the main file.
+// One run: the program's words after its name, which blanks part, the database's file and the others, and what the run
+// leaves, with the number of paths that it asked for.
 #[derive(Clone, Copy)]
 struct Case {
-    words: [&'static str; 4],
-    database: Has,
-    path: &'static str,
-    main: Has,
+    words: &'static str,
+    database: &'static str,
+    files: &'static str,
     status: u8,
     out: &'static str,
     err: &'static str,
+    paths: u64,
 }
 
-const WORDS: [&str; 4] = ["scan_deps", "--compilation-database=/p/db.json", "-j", "1"];
+const WORDS: &str = "--compilation-database=/p/db.json -j 1";
 
-const DATABASE: &str =
-    "[{\"directory\":\"/p\",\"file\":\"u.cpp\",\"arguments\":[\"c++\",\"-c\",\"u.cpp\"]}]";
-
-const INTERFACE_DATABASE: &str =
-    "[{\"directory\":\"/p\",\"file\":\"m.cppm\",\"arguments\":[\"c++\",\"-c\",\"m.cppm\"]}]";
-
-const NO_RULES: &str = "{\n  \"revision\": 0,\n  \"rules\": [],\n  \"version\": 1\n}\n";
-
-const PROVIDES_M: &str = "{
-  \"revision\": 0,
-  \"rules\": [
-    {
-      \"primary-output\": \"m.o\",
-      \"provides\": [
-        {
-          \"is-interface\": true,
-          \"logical-name\": \"M\",
-          \"source-path\": \"/p/m.cppm\"
-        }
-      ]
-    }
-  ],
-  \"version\": 1
-}
-";
-
-const REQUIRES_M_AND_N: &str = "{
-  \"revision\": 0,
-  \"rules\": [
-    {
-      \"primary-output\": \"u.o\",
-      \"requires\": [
-        {
-          \"logical-name\": \"M\"
-        },
-        {
-          \"logical-name\": \"N\"
-        }
-      ]
-    }
-  ],
-  \"version\": 1
-}
-";
-
-const REQUIRES_A: &str = "{
-  \"revision\": 0,
-  \"rules\": [
-    {
-      \"primary-output\": \"u.o\",
-      \"requires\": [
-        {
-          \"logical-name\": \"a\"
-        }
-      ]
-    }
-  ],
-  \"version\": 1
-}
-";
-
-const PARTITION_P_OF_M: &str = "{
-  \"revision\": 0,
-  \"rules\": [
-    {
-      \"primary-output\": \"u.o\",
-      \"provides\": [
-        {
-          \"is-interface\": false,
-          \"logical-name\": \"M:P\",
-          \"source-path\": \"/p/u.cpp\"
-        }
-      ],
-      \"requires\": [
-        {
-          \"logical-name\": \"M:Q\"
-        }
-      ]
-    }
-  ],
-  \"version\": 1
-}
-";
-
-const USAGE: &str = "usage: scan_deps --compilation-database=FILE [options]\n";
-
-// A run that scans a main file.
-fn scan(main: Has, status: u8, out: &'static str, err: &'static str) -> Case {
+const SCANS: [Case; 17] = [
     Case {
         words: WORDS,
-        database: Has::Text(DATABASE),
-        path: "/p/u.cpp",
-        main,
-        status,
-        out,
-        err,
-    }
-}
-
-// A run that scans the interface unit of the module M.
-fn interface() -> Case {
+        database: "/p/db.json\n[]",
+        files: "",
+        status: 0,
+        out: NO_RULES,
+        err: "",
+        paths: 0,
+    },
     Case {
         words: WORDS,
-        database: Has::Text(INTERFACE_DATABASE),
-        path: "/p/m.cppm",
-        main: Has::Text("export module M;"),
+        database: ONE_M,
+        files: "/p/m.cppm\nexport module M;",
         status: 0,
         out: PROVIDES_M,
         err: "",
-    }
-}
-
-// A run that is refused before it looks at a main file.
-fn refuse(words: [&'static str; 4], database: Has, status: u8, err: &'static str) -> Case {
+        paths: 1,
+    },
     Case {
-        words,
-        database,
-        path: "/p/u.cpp",
-        main: Has::Nothing,
-        status,
-        out: "",
-        err,
-    }
+        words: WORDS,
+        database: ONE_U,
+        files: "/p/u.cpp\nmodule M;\nimport N;\nimport N;\n",
+        status: 0,
+        out: U_REQUIRES_M_AND_N,
+        err: "",
+        paths: 1,
+    },
+    Case {
+        words: WORDS,
+        database: ONE_U,
+        files: "/p/u.cpp\nmodule M:P;\nimport :Q;\n",
+        status: 0,
+        out: PARTITION_P_OF_M,
+        err: "",
+        paths: 1,
+    },
+    Case {
+        words: WORDS,
+        database: ONE_U,
+        files: "/p/u.cpp\n\nimport :P;\nmodule M;\n",
+        status: 1,
+        out: NO_RULES,
+        err: "command 1: /p/u.cpp:2: PartitionOutsideModule\n",
+        paths: 1,
+    },
+    Case {
+        words: WORDS,
+        database: TWO,
+        files: "/p/a.cpp\nimport <vector>;~/p/b.cpp\nimport b;",
+        status: 1,
+        out: B_REQUIRES_B,
+        err: "command 1: /p/a.cpp:1: HeaderUnit\n",
+        paths: 2,
+    },
+    Case {
+        words: WORDS,
+        database: ONE_U,
+        files: "/p/u.cpp\nauto s = R\"x(\n#define import x\n)x\";\nimport a;\n",
+        status: 0,
+        out: U_REQUIRES_A,
+        err: "",
+        paths: 1,
+    },
+    Case {
+        words: WORDS,
+        database: ONE_U,
+        files: "/p/u.cpp\nFOOR\"(\"\nimport a;\nx = \")\";\n",
+        status: 0,
+        out: U_REQUIRES_A,
+        err: "",
+        paths: 1,
+    },
+    Case {
+        words: WORDS,
+        database: ONE_U,
+        files: "/p/u.cpp\nimport a\n",
+        status: 1,
+        out: NO_RULES,
+        err: "command 1: /p/u.cpp:1: BadModuleLine\n",
+        paths: 1,
+    },
+    Case {
+        words: WORDS,
+        database: ONE_U,
+        files: "/p/u.cpp\n\nmodule A;\nmodule B;\n",
+        status: 1,
+        out: NO_RULES,
+        err: "command 1: /p/u.cpp:3: SecondModule\n",
+        paths: 1,
+    },
+    Case {
+        words: WORDS,
+        database: ONE_U,
+        files: "",
+        status: 1,
+        out: NO_RULES,
+        err: "command 1: /p/u.cpp:0: MainMissing\n",
+        paths: 1,
+    },
+    Case {
+        words: WORDS,
+        database: ONE_U,
+        files: "/p/u.cpp fails",
+        status: 1,
+        out: NO_RULES,
+        err: "command 1: /p/u.cpp:0: ReadFault\n",
+        paths: 1,
+    },
+    Case {
+        words: WORDS,
+        database: TWO,
+        files: "/p/a.cpp
+#if __has_include(\"x.h\")
+import x;
+#else
+import none;
+#endif
+~/p/b.cpp
+#if __has_include(\"x.h\")
+import x;
+#else
+import none;
+#endif
+~/p/x.h comes",
+        status: 0,
+        out: BOTH_REQUIRE_NONE,
+        err: "",
+        paths: 3,
+    },
+    Case {
+        words: WORDS,
+        database: THREE,
+        files: "/p/a.cpp\n#include \"s.h\"\n~/p/b.cpp\n#include \"s.h\"\n~/p/c.cpp\nimport c;\n~/p/s.h fails",
+        status: 1,
+        out: C_REQUIRES_C,
+        err: "command 1: /p/a.cpp:1: ReadFault\ncommand 2: /p/b.cpp:1: ReadFault\n",
+        paths: 4,
+    },
+    Case {
+        words: USUAL_WORDS,
+        database: USUAL_DATABASE,
+        files: USUAL_FILES,
+        status: 0,
+        out: USUAL_DOCUMENT,
+        err: "",
+        paths: 8,
+    },
+    Case {
+        words: WORDS,
+        database: REFUSED,
+        files: "",
+        status: 1,
+        out: NO_RULES,
+        err: "command 1: BadCommand\ncommand 2: UnsupportedOption\ncommand 3: BadCommand\n",
+        paths: 0,
+    },
+    Case {
+        words: WORDS,
+        database: WITH_FOLDER,
+        files: "/p/u.cpp
+#define H <v.h>
+#include H
+#include \"v.h\"
+#include \"k.h\"
+~/p/inc/v.h
+import v;
+~/p/v.h
+import w;
+~/p/inc/k.h
+import v;
+import k;
+",
+        status: 0,
+        out: U_REQUIRES_V_W_AND_K,
+        err: "",
+        paths: 5,
+    },
+];
+
+// A run that is refused: its words, its database and its status with its line.
+#[derive(Clone, Copy)]
+struct Refused {
+    words: &'static str,
+    database: &'static str,
+    status: u8,
+    err: &'static str,
 }
 
-fn words_of(alloc: Global, words: [&'static str; 4]) -> Result<Vec<String>, Fail> {
-    let mut list = Vec::new(alloc);
-    for word in words {
-        list.push(String::from_str(alloc, word)?)?;
+const REFUSALS: [Refused; 10] = [
+    Refused {
+        words: "--compilation-database=/p/db.json -j 0",
+        database: ONE_U,
+        status: 2,
+        err: USAGE,
+    },
+    Refused {
+        words: "--compilation-database=/p/db.json -j 65",
+        database: ONE_U,
+        status: 2,
+        err: USAGE,
+    },
+    Refused {
+        words: "-j 1",
+        database: ONE_U,
+        status: 2,
+        err: USAGE,
+    },
+    Refused {
+        words: "--compilation-database=/p/db.json --nothing",
+        database: ONE_U,
+        status: 2,
+        err: USAGE,
+    },
+    Refused {
+        words: WORDS,
+        database: "",
+        status: 3,
+        err: "database unread: Absent\n",
+    },
+    Refused {
+        words: WORDS,
+        database: "/p/db.json fails",
+        status: 3,
+        err: "database unread: Failed\n",
+    },
+    Refused {
+        words: WORDS,
+        database: "/p/db.json\n[{\"directory\":\"/p\"",
+        status: 4,
+        err: "bad database: not JSON\n",
+    },
+    Refused {
+        words: WORDS,
+        database: "/p/db.json\n{}",
+        status: 4,
+        err: "bad database: not an array\n",
+    },
+    Refused {
+        words: WORDS,
+        database: SECOND_IS_BAD,
+        status: 4,
+        err: "bad database: entry 2\n",
+    },
+    Refused {
+        words: "--compilation-database /p/db.json --format=make",
+        database: ONE_U,
+        status: 2,
+        err: USAGE,
+    },
+];
+
+// ## How a case is run
+
+// The program's name and these words.
+fn words_of(alloc: Global, text: &str) -> Result<Vec<String>, Fail> {
+    let mut words = Vec::new(alloc);
+    words.push(String::from_str(alloc, "scan_deps")?)?;
+    for word in text.split(' ') {
+        words.push(String::from_str(alloc, word)?)?;
     }
-    Ok(list)
+    Ok(words)
 }
 
-fn script(alloc: Global, path: &str, has: &Has) -> Result<Items<Scripted>, Fail> {
-    let outcome = match has {
-        Has::Text(text) => ScriptedOutcome::Bytes(Bytes::copy(alloc, text.as_bytes())?),
-        Has::Nothing => ScriptedOutcome::Absent,
-        Has::Failure => ScriptedOutcome::Failed,
+fn outcomes_of(alloc: Global, kind: &str, text: &str) -> Result<Items<ScriptedOutcome>, Fail> {
+    let text = ScriptedOutcome::Bytes(Bytes::copy(alloc, text.as_bytes())?);
+    let outcomes = match kind {
+        "fails" => vec![in alloc; ScriptedOutcome::Failed]?,
+        "comes" => vec![in alloc; ScriptedOutcome::Absent, text]?,
+        _ => vec![in alloc; text]?,
     };
-    let path = normal(alloc, path.as_bytes())?;
-    let outcomes = Items::of_vec(vec![in alloc; outcome]?);
-    Ok(Items::of_vec(vec![in alloc; Scripted { path, outcomes }]?))
+    Ok(Items::of_vec(outcomes))
 }
 
-fn sources(alloc: Global, path: &str, main: &Has) -> Result<Vec<MemorySource>, Fail>
+fn scripted(alloc: Global, file: &str) -> Result<Scripted, Fail> {
+    let (head, text) = file.split_once('\n').unwrap_or((file, ""));
+    let (path, kind) = head.split_once(' ').unwrap_or((head, ""));
+    Ok(Scripted {
+        path: normal(alloc, path.as_bytes())?,
+        outcomes: outcomes_of(alloc, kind, text)?,
+    })
+}
+
+fn script(alloc: Global, files: &str) -> Result<Items<Scripted>, Fail> {
+    let mut script = Vec::new(alloc);
+    for file in files.split('~') {
+        if !file.is_empty() {
+            script.push(scripted(alloc, file)?)?;
+        }
+    }
+    Ok(Items::of_vec(script))
+}
+
+fn sources(alloc: Global, files: &str) -> Result<Vec<MemorySource>, Fail>
     ensures sixteen { IfOk result (λ sources. vec_len sources ≡ 16) }
     ensures fresh { IfOk result (λ sources. All (λ source. ⟦<MemorySource as Source>⟧.asked source ≡ []) sources.items) }
 {
     let mut sources = Vec::new(alloc);
     'shards: while sources.len() < 16 {
-        sources.push(MemorySource::new(alloc, script(alloc, path, main)?)?)?;
+        sources.push(MemorySource::new(alloc, script(alloc, files)?)?)?;
     }
     Ok(sources)
 }
 
 fn outside(
     alloc: Global,
-    database: &Has,
-    path: &str,
-    main: &Has,
+    database: Items<Scripted>,
+    files: &str,
 ) -> Result<Outside<MemorySource>, Fail>
     ensures fresh_db { IfOk result (λ outside. ⟦<MemorySource as Source>⟧.asked outside.db ≡ []) }
     ensures fresh_store { IfOk result (λ outside. IsUntouched outside.store) }
 {
-    let db = MemorySource::new(alloc, script(alloc, "/p/db.json", database)?)?;
-    match Store::new(alloc, sources(alloc, path, main)?) {
+    let db = MemorySource::new(alloc, database)?;
+    match Store::new(alloc, sources(alloc, files)?) {
         Ok(store) => Ok(Outside { db, store }),
         Err(_) => Err(Fail::from("memory")),
     }
@@ -206,108 +357,20 @@ fn outside(
 fn is_as_said(rt: &impl Abort, alloc: Global, case: &Case) -> Result<(), Fail> {
     let words = words_of(alloc, case.words)?;
     assert!(rt; words.iter().all(|word| word.len() <= 33_554_432));
-    let outside = outside(alloc, &case.database, case.path, &case.main)?;
-    let mut out = MemorySink::new(alloc, 65_536, Items::new(alloc))?;
-    let mut err = MemorySink::new(alloc, 65_536, Items::new(alloc))?;
+    let outside = outside(alloc, script(alloc, case.database)?, case.files)?;
+    let mut out = MemorySink::new(alloc, 16_777_216, Items::new(alloc))?;
+    let mut err = MemorySink::new(alloc, 16_777_216, Items::new(alloc))?;
     let ended = scan_alone(alloc, &words, outside, &mut out, &mut err);
     assert_eq!(rt; err.bytes(), case.err.as_bytes());
     assert_eq!(rt; out.bytes(), case.out.as_bytes());
     assert_eq!(rt; ended.status, case.status);
+    assert_eq!(rt; ended.outside.store.paths(), case.paths);
     Ok(())
 }
 
 #[test]
-fn units(rt: HostRuntime) -> Result<(), Fail> {
-    for case in [
-        interface(),
-        scan(
-            Has::Text("module M;\nimport N;\nimport N;\n"),
-            0,
-            REQUIRES_M_AND_N,
-            "",
-        ),
-        scan(
-            Has::Text("import a;\n#define A\n"),
-            1,
-            NO_RULES,
-            "command 1: /p/u.cpp:2: NotYet\n",
-        ),
-        scan(
-            Has::Text("import __LINE__;\n"),
-            1,
-            NO_RULES,
-            "command 1: /p/u.cpp:1: NotYet\n",
-        ),
-        scan(
-            Has::Text("int x;\n%: if 1\nimport a\n"),
-            1,
-            NO_RULES,
-            "command 1: /p/u.cpp:2: NotYet\n",
-        ),
-        scan(
-            Has::Text("import a\n"),
-            1,
-            NO_RULES,
-            "command 1: /p/u.cpp:1: BadModuleLine\n",
-        ),
-        scan(
-            Has::Text("\nmodule A;\nmodule B;\n"),
-            1,
-            NO_RULES,
-            "command 1: /p/u.cpp:3: SecondModule\n",
-        ),
-        scan(
-            Has::Nothing,
-            1,
-            NO_RULES,
-            "command 1: /p/u.cpp:0: MainMissing\n",
-        ),
-        scan(
-            Has::Failure,
-            1,
-            NO_RULES,
-            "command 1: /p/u.cpp:0: ReadFault\n",
-        ),
-    ] {
-        is_as_said(&rt, rt.alloc(), &case)?;
-    }
-    Ok(())
-}
-
-#[test]
-fn units_of_any_text(rt: HostRuntime) -> Result<(), Fail> {
-    for case in [
-        scan(
-            Has::Text("module M:P;\nimport :Q;\n"),
-            0,
-            PARTITION_P_OF_M,
-            "",
-        ),
-        scan(
-            Has::Text("\nimport :P;\nmodule M;\n"),
-            1,
-            NO_RULES,
-            "command 1: /p/u.cpp:2: PartitionOutsideModule\n",
-        ),
-        scan(
-            Has::Text("import <vector>;\n"),
-            1,
-            NO_RULES,
-            "command 1: /p/u.cpp:1: HeaderUnit\n",
-        ),
-        scan(
-            Has::Text("auto s = R\"x(\n#define import x\n)x\";\nimport a;\n"),
-            0,
-            REQUIRES_A,
-            "",
-        ),
-        scan(
-            Has::Text("FOOR\"(\"\nimport a;\nx = \")\";\n"),
-            0,
-            REQUIRES_A,
-            "",
-        ),
-    ] {
+fn scans(rt: HostRuntime) -> Result<(), Fail> {
+    for case in SCANS {
         is_as_said(&rt, rt.alloc(), &case)?;
     }
     Ok(())
@@ -315,59 +378,190 @@ fn units_of_any_text(rt: HostRuntime) -> Result<(), Fail> {
 
 #[test]
 fn refusals(rt: HostRuntime) -> Result<(), Fail> {
-    let built =
-        "[{\"directory\":\"/p\",\"file\":\"u.cpp\",\"arguments\":[\"c++\"]},{\"directory\":\"/p\"}]";
-    let option = "[{\"directory\":\"/p\",\"file\":\"u.cpp\",\"arguments\":[\"c++\",\"-I\"]}]";
-    for case in [
-        refuse(
-            ["scan_deps", "--compilation-database=/p/db.json", "-j", "0"],
-            Has::Text(DATABASE),
-            2,
-            USAGE,
-        ),
-        refuse(
-            ["scan_deps", "--compilation-database=/p/db.json", "-j", "65"],
-            Has::Text(DATABASE),
-            2,
-            USAGE,
-        ),
-        refuse(
-            ["scan_deps", "--format=p1689", "-j", "1"],
-            Has::Text(DATABASE),
-            2,
-            USAGE,
-        ),
-        refuse(WORDS, Has::Nothing, 3, "database unread: Absent\n"),
-        refuse(WORDS, Has::Failure, 3, "database unread: Failed\n"),
-        refuse(
-            WORDS,
-            Has::Text("[{\"directory\":\"/p\""),
-            4,
-            "bad database: not JSON\n",
-        ),
-        refuse(WORDS, Has::Text("{}"), 4, "bad database: not an array\n"),
-        refuse(WORDS, Has::Text(built), 4, "bad database: entry 2\n"),
-        refuse(WORDS, Has::Text("[]"), 8, "not built yet\n"),
-        refuse(WORDS, Has::Text(option), 8, "not built yet\n"),
-    ] {
+    for refused in REFUSALS {
+        let case = Case {
+            words: refused.words,
+            database: refused.database,
+            files: "",
+            status: refused.status,
+            out: "",
+            err: refused.err,
+            paths: 0,
+        };
         is_as_said(&rt, rt.alloc(), &case)?;
     }
     Ok(())
 }
 
-// The output's first put fails after half of the document.
+// ## Sinks that fail
+
+// The put of each sink that fails, or 0, and what comes of it.
+#[derive(Clone, Copy)]
+struct Failing {
+    database: &'static str,
+    files: &'static str,
+    out_failing: u32,
+    err_failing: u32,
+    status: u8,
+    out: &'static str,
+    err: &'static str,
+}
+
+const FAILING: [Failing; 4] = [
+    // The output's only put fails after half of the document, and no line is put.
+    Failing {
+        database: ONE_U,
+        files: "/p/u.cpp\nimport a",
+        out_failing: 1,
+        err_failing: 0,
+        status: 6,
+        out: "{\n  \"revision\": 0,\n  \"rul",
+        err: "",
+    },
+    // The error output's only put fails after half of the line.
+    Failing {
+        database: ONE_U,
+        files: "/p/u.cpp\nimport a",
+        out_failing: 0,
+        err_failing: 1,
+        status: 6,
+        out: NO_RULES,
+        err: "command 1: /p/u.cp",
+    },
+    // Nothing is put to the error output where every command has its record.
+    Failing {
+        database: ONE_M,
+        files: "/p/m.cppm\nexport module M;",
+        out_failing: 0,
+        err_failing: 1,
+        status: 0,
+        out: PROVIDES_M,
+        err: "",
+    },
+    // A refusal keeps its status.
+    Failing {
+        database: "/p/db.json\n{}",
+        files: "",
+        out_failing: 1,
+        err_failing: 1,
+        status: 4,
+        out: "",
+        err: "bad database:",
+    },
+];
+
+fn sink(alloc: Global, failing: u32) -> Result<MemorySink, Fail>
+    ensures { IfOk result (λ sink. ⟦<MemorySink as Sink>⟧.faults sink ≡ 0) }
+{
+    Ok(MemorySink::new(alloc, 65_536, Items::of_vec(vec![in alloc; failing]?))?)
+}
+
 #[test]
-fn an_output_that_fails(rt: HostRuntime) -> Result<(), Fail> {
+fn sinks_that_fail(rt: HostRuntime) -> Result<(), Fail> {
     let alloc = rt.alloc();
+    for case in FAILING {
+        let words = words_of(alloc, WORDS)?;
+        assert!(rt; words.iter().all(|word| word.len() <= 33_554_432));
+        let outside = outside(alloc, script(alloc, case.database)?, case.files)?;
+        let mut out = sink(alloc, case.out_failing)?;
+        let mut err = sink(alloc, case.err_failing)?;
+        let ended = scan_alone(alloc, &words, outside, &mut out, &mut err);
+        assert_eq!(rt; err.bytes(), case.err.as_bytes());
+        assert_eq!(rt; out.bytes(), case.out.as_bytes());
+        assert_eq!(rt; ended.status, case.status);
+    }
+    Ok(())
+}
+
+// ## Large databases, and such as aren't texts
+
+// A run over this database and no other file.
+fn ends_so(
+    rt: &impl Abort,
+    alloc: Global,
+    database: Vec<u8>,
+    status: u8,
+    err_text: &[u8],
+) -> Result<(), Fail> {
     let words = words_of(alloc, WORDS)?;
     assert!(rt; words.iter().all(|word| word.len() <= 33_554_432));
-    let case = interface();
-    let outside = outside(alloc, &case.database, case.path, &case.main)?;
-    let mut out = MemorySink::new(alloc, 65_536, Items::of_vec(vec![in alloc; 1]?))?;
-    let mut err = MemorySink::new(alloc, 65_536, Items::new(alloc))?;
+    let text = ScriptedOutcome::Bytes(Bytes::of_vec(database));
+    let file = Scripted {
+        path: normal(alloc, b"/p/db.json")?,
+        outcomes: Items::of_vec(vec![in alloc; text]?),
+    };
+    let outside = outside(alloc, Items::of_vec(vec![in alloc; file]?), "")?;
+    let mut out = MemorySink::new(alloc, 65_536, Items::new(alloc))?;
+    let mut err = MemorySink::new(alloc, 16_777_216, Items::new(alloc))?;
     let ended = scan_alone(alloc, &words, outside, &mut out, &mut err);
-    assert_eq!(rt; ended.status, 6);
-    assert_eq!(rt; out.bytes(), &PROVIDES_M.as_bytes()[..PROVIDES_M.len() / 2]);
-    assert_eq!(rt; err.bytes().len(), 0);
+    assert_eq!(rt; ended.status, status);
+    assert!(rt; err.bytes() == err_text);
     Ok(())
+}
+
+// So many entries of empty texts.
+fn entries(alloc: Global, count: u32) -> Result<Vec<u8>, Fail> {
+    let mut text = Vec::new(alloc);
+    let mut before: &[u8] = b"[";
+    for _ in 0..count {
+        text.extend_from_slice(before)?;
+        text.extend_from_slice(br#"{"arguments":[],"directory":"","file":""}"#)?;
+        before = b",";
+    }
+    text.push(b']')?;
+    Ok(text)
+}
+
+#[test]
+fn as_many_commands_as_a_database_may_have(rt: HostRuntime) -> Result<(), Fail> {
+    let alloc = rt.alloc();
+    let too_many = entries(alloc, 131_073)?;
+    assert_eq!(rt; too_many.len(), 5_505_067);
+    ends_so(&rt, alloc, too_many, 5, b"too many commands\n")?;
+    let mut lines = Vec::new(alloc);
+    for number in 1..131_073u32 {
+        let line = format!(in alloc; "command {number}: .:0: MainMissing\n")?;
+        lines.extend_from_slice(line.as_bytes())?;
+    }
+    ends_so(&rt, alloc, entries(alloc, 131_072)?, 1, &lines)
+}
+
+// A database whose one command is one word of so many letters, which make all but 48 of its bytes.
+fn one_word(alloc: Global, letters: u32) -> Result<Vec<u8>, Fail> {
+    let mut text = Vec::new(alloc);
+    text.extend_from_slice(br#"[{"directory":"/p","file":"u.cpp","command":""#)?;
+    for _ in 0..letters {
+        text.push(b'x')?;
+    }
+    text.extend_from_slice(b"\"}]")?;
+    Ok(text)
+}
+
+#[test]
+fn a_word_as_long_as_a_file_may_be(rt: HostRuntime) -> Result<(), Fail> {
+    let alloc = rt.alloc();
+    let whole = one_word(alloc, 33_554_384)?;
+    assert_eq!(rt; whole.len(), 33_554_432);
+    let missing = b"command 1: /p/u.cpp:0: MainMissing\n";
+    ends_so(&rt, alloc, whole, 1, missing)?;
+    let big = one_word(alloc, 33_554_385)?;
+    ends_so(&rt, alloc, big, 3, b"database unread: Big\n")
+}
+
+#[test]
+fn databases_that_are_no_json(rt: HostRuntime) -> Result<(), Fail> {
+    let alloc = rt.alloc();
+    let mut nested = Vec::new(alloc);
+    for _ in 0..10_000 {
+        nested.push(b'[')?;
+    }
+    for _ in 0..10_000 {
+        nested.push(b']')?;
+    }
+    ends_so(&rt, alloc, nested, 4, b"bad database: not JSON\n")?;
+    let mut not_utf8 = Vec::new(alloc);
+    not_utf8.extend_from_slice(br#"[{"directory":"/p","file":"u.cpp","arguments":["c++","-Dx="#)?;
+    not_utf8.push(255)?;
+    not_utf8.extend_from_slice(b"\"]}]")?;
+    ends_so(&rt, alloc, not_utf8, 4, b"bad database: not JSON\n")
 }

@@ -1,24 +1,32 @@
-ghost use Rattle.std.specs.Prelude.{◌≡◌, [], ◌∷◌, Some, IfOk, IfSome};
-ghost use Rattle.std.specs.Option.{option_map};
+ghost use Rattle.std.specs.Prelude.{◌≡◌, [], Some, All, IfOk, IfSome, map, option_map};
 ghost use Rattle.file_source.specs.Givens.{IsGiven};
+ghost use Rattle.program_words.specs.Words.{IsShortWord, texts_of, words_of};
+ghost use Rattle.scan_model.specs.Fits.{JobFits, SettingsFit};
 ghost use Rattle.compile_db.specs.Database.{database};
-ghost use Rattle.scanner.specs.Words.{database_path, texts_of};
-ghost use Rattle.scanner.specs.Verdict.{verdict, of_read, of_database, of_fault, of_entries};
+ghost use Rattle.command_words.specs.Jobs.{job_of};
+ghost use Rattle.scanner.specs.Verdict.{database_path, read_of, verdict, of_read, of_database, of_fault, VerdictFits};
 ghost use Rattle.scanner.specs.Asked.{AsksDatabase};
 
 use crate::refusal::Refusal;
-use crate::words::read_words;
-use command_words::{is_built, read_command};
+use command_words::job;
 use compile_db::{DbFault, Entry};
 use file_source::Source;
-use scan_model::{Command, Items, NoMemory, Outcome};
+use program_words::{Usage, Words};
+use scan_model::{Items, Job, NoMemory, Outcome, Settings};
 use std::alloc::Global;
+
+/// The commands to scan, in order, and what the program's words say of all of them.
+#[derive(Drop)]
+pub(crate) struct Plan {
+    pub(crate) jobs: Items<Job>,
+    pub(crate) settings: Settings,
+}
 
 /// What a run has to do.
 #[derive(Drop)]
 pub(crate) enum Verdict {
     Refuse(Refusal),
-    Scan(Command),
+    Scan(Plan),
 }
 
 /// Reads the words and the database. `Err` is want of memory; what the database's read gave comes back in any case.
@@ -27,32 +35,47 @@ pub(crate) fn read_verdict<S: Source>(
     words: &Vec<String>,
     db: &mut S,
 ) -> (Result<Verdict, NoMemory>, Option<S::Given>)
-    requires { S.asked db.old ≡ [] }
-    ensures verdict { IfOk result.0 (λ v. verdict (database_path (texts_of words.now.items))
-        (option_map (λ g. (S.given_outcome g, S.given_bytes g)) result.1) ≡ Some v) }
+    requires fresh { S.asked db.old ≡ [] }
+    requires short { All IsShortWord words.now.items }
+    ensures verdict { IfOk result.0 (λ v. verdict (words_of (texts_of words.now.items))
+        (read_of S.given_outcome S.given_bytes result.1) ≡ Some v) }
+    ensures fits { IfOk result.0 VerdictFits }
     ensures given { IfSome result.1 (λ g. IsGiven (S.given_outcome g) (S.given_bytes g) (S.given_faults g) (S.given_came g)) }
     ensures given_here { IfSome result.1 (λ g. S.given_origin g ≡ S.origin db.old) }
-    ensures asked { AsksDatabase (database_path (texts_of words.now.items)) (S.asked db.new) (option_map S.given_path result.1) }
+    ensures same_origin { S.origin db.new ≡ S.origin db.old }
+    ensures asked { AsksDatabase (database_path (words_of (texts_of words.now.items))) (S.asked db.new)
+        (option_map S.given_path result.1) }
 {
-    let path = match read_words(alloc, words) {
-        Ok(Some(path)) => path,
-        Ok(None) => return (Ok(Verdict::Refuse(Refusal::Usage)), None),
+    let Words {
+        database,
+        settings,
+        ..
+    } = match program_words::read(alloc, words) {
+        Ok(Ok(words)) => words,
+        Ok(Err(Usage)) => return (Ok(Verdict::Refuse(Refusal::Usage)), None),
         Err(NoMemory) => return (Err(NoMemory), None),
     };
-    let opener = match db.ask(alloc, &path) {
+    let opener = match db.ask(alloc, &database) {
         Ok(opener) => opener,
         Err(NoMemory) => return (Err(NoMemory), None),
     };
     let given = S::read(alloc, opener);
-    let verdict = of_read(alloc, S::outcome(&given), S::bytes(&given));
+    let verdict = of_read(alloc, S::outcome(&given), S::bytes(&given), settings);
     (verdict, Some(given))
 }
 
-fn of_read(alloc: Global, outcome: Outcome, bytes: &[u8]) -> Result<Verdict, NoMemory>
-    ensures { IfOk result (λ v. of_read outcome bytes.now ≡ Some v) }
+fn of_read(
+    alloc: Global,
+    outcome: Outcome,
+    bytes: &[u8],
+    settings: Settings,
+) -> Result<Verdict, NoMemory>
+    requires { SettingsFit settings }
+    ensures verdict { IfOk result (λ v. of_read settings outcome bytes.now ≡ Some v) }
+    ensures fits { IfOk result VerdictFits }
 {
     match outcome {
-        Outcome::Present => of_database(alloc, bytes),
+        Outcome::Present => of_database(alloc, bytes, settings),
         Outcome::Absent => Ok(Verdict::Refuse(Refusal::DbAbsent)),
         Outcome::Failed => Ok(Verdict::Refuse(Refusal::DbFailed)),
         Outcome::Big => Ok(Verdict::Refuse(Refusal::DbBig)),
@@ -60,11 +83,16 @@ fn of_read(alloc: Global, outcome: Outcome, bytes: &[u8]) -> Result<Verdict, NoM
     }
 }
 
-fn of_database(alloc: Global, bytes: &[u8]) -> Result<Verdict, NoMemory>
-    ensures { IfOk result (λ v. v ≡ of_database (database bytes.now)) }
+fn of_database(alloc: Global, bytes: &[u8], settings: Settings) -> Result<Verdict, NoMemory>
+    requires { SettingsFit settings }
+    ensures verdict { IfOk result (λ v. v ≡ of_database settings (database bytes.now)) }
+    ensures fits { IfOk result VerdictFits }
 {
     match compile_db::read(alloc, bytes)? {
-        Ok(entries) => of_entries(alloc, &entries),
+        Ok(entries) => {
+            let jobs = jobs_of(alloc, entries.as_slice())?;
+            Ok(Verdict::Scan(Plan { jobs, settings }))
+        }
         Err(fault) => Ok(Verdict::Refuse(of_fault(fault))),
     }
 }
@@ -76,26 +104,18 @@ fn of_fault(fault: DbFault) -> Refusal
         DbFault::NotJson => Refusal::NotJson,
         DbFault::NotArray => Refusal::NotArray,
         DbFault::BadEntry(number) => Refusal::BadEntry(number),
-        DbFault::TooMany(_) => Refusal::NotBuilt,
+        DbFault::TooMany(_) => Refusal::TooMany,
     }
 }
 
-fn of_entries(alloc: Global, entries: &Items<Entry>) -> Result<Verdict, NoMemory>
-    ensures { IfOk result (λ v. v ≡ of_entries entries.now) }
+// The command of each entry, in order.
+fn jobs_of(alloc: Global, entries: &[Entry]) -> Result<Items<Job>, NoMemory>
+    ensures jobs { IfOk result (λ jobs. jobs ≡ map (λ entry. job_of entry) entries.now) }
+    ensures fits { IfOk result (All JobFits) }
 {
-    let entries = entries.as_slice();
-    if entries.len() != 1 {
-        return Ok(Verdict::Refuse(Refusal::NotBuilt));
+    let mut jobs = Vec::with_capacity(alloc, entries.len())?;
+    'entries: for entry in entries {
+        jobs.push(job(alloc, entry)?)?;
     }
-    of_entry(alloc, &entries[0])
-}
-
-fn of_entry(alloc: Global, entry: &Entry) -> Result<Verdict, NoMemory>
-    ensures { IfOk result (λ v. v ≡ of_entries (entry.now ∷ [])) }
-{
-    if is_built(entry) {
-        Ok(Verdict::Scan(read_command(alloc, entry)?))
-    } else {
-        Ok(Verdict::Refuse(Refusal::NotBuilt))
-    }
+    Ok(Items::of_vec(jobs))
 }

@@ -1,1 +1,8 @@
-pub mod PlainAnswer
+pub mod Parts
+pub mod Lookups
+pub mod Jumps
+pub mod Standing
+pub mod Taking
+pub mod UnitInside
+pub mod Turns
+pub mod Told

@@ -22,7 +22,7 @@ use Rattle.unit_laws.specs.Reduction.{Given}
 use Rattle.unit_laws.proofs.ChainLemmas.{found_place}
 use Rattle.unit_steps.specs.Searches.{Aim, Included, name_search, on_absent, on_present, on_given}
 use Rattle.unit_steps.specs.Moments.{Moment, core_at}
-use Rattle.unit_steps.specs.Commands.{CommandFits, SettingsFit}
+use Rattle.scan_model.specs.Fits.{CommandFits, SettingsFit}
 use Rattle.unit_steps.specs.Stands.{AreKept, Agree, AreAbsent, Acts, Stands, IsCandidate}
 use Rattle.unit_laws.specs.KnownAnswers.{asked}
 use Rattle.unit_steps.proofs.Reaching.{all_parts, all_one, drop_at, drop_beyond}

@@ -35,7 +35,7 @@ use Rattle.unit_steps.specs.Jumps.{IsBehind, unbalanced_at, left_open}
 use Rattle.unit_steps.specs.Stands.{AreKept, Agree, AreLines, Acts, Stands, StandsAtEnd, IsCandidate}
 use Rattle.unit_steps.specs.Work.{Work, rank, IsMeasured}
 use Rattle.unit_steps.specs.UnitView.{UnitView, Asks, Over, Fits, FitsPhase}
-use Rattle.unit_steps.specs.Commands.{CommandFits, SettingsFit}
+use Rattle.scan_model.specs.Fits.{CommandFits, SettingsFit}
 
 -- ## The steps
 

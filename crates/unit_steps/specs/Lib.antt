@@ -4,7 +4,6 @@ pub mod Moments
 pub mod Stands
 pub mod Work
 pub mod UnitView
-pub mod Commands
 pub mod Jumps
 pub mod Logs
 pub mod Settings

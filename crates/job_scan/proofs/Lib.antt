@@ -1,0 +1,4 @@
+pub mod RowSteps
+pub mod StoreGrowth
+pub mod CommandSteps
+pub mod JobSteps
