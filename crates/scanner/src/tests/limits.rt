@@ -48,14 +48,14 @@ fn definitions(alloc: Global, count: u32) -> Result<String, Fail> {
     Ok(text)
 }
 
-// Each of these macros is replaced by two calls of the one before.
+// Each of these macros is replaced by the one before, twice.
 fn doubling(alloc: Global) -> Result<String, Fail> {
     let mut text = String::from_str(alloc, "u.cpp #define T0 0`")?;
-    for number in 1..18 {
-        let before = number - 1;
-        text.push_str(format!(in alloc; "#define T{number} ")?.as_str())?;
-        text.push_str(format!(in alloc; "T{before}+")?.as_str())?;
-        text.push_str(format!(in alloc; "T{before}`")?.as_str())?;
+    for number in 0..17u32 {
+        let next = number + 1;
+        text.push_str(format!(in alloc; "#define T{next} ")?.as_str())?;
+        text.push_str(format!(in alloc; "T{number}+")?.as_str())?;
+        text.push_str(format!(in alloc; "T{number}`")?.as_str())?;
     }
     text.push_str("#define N`#if T17+T15+T13+T11+T9+T7+T5+T3+T3+T0+T0 == 0")?;
     Ok(text)

@@ -104,11 +104,13 @@ fn database(alloc: Global, arguments: &str) -> Result<String, Fail> {
 
 // Adds the text of a file, whose lines end at "`".
 fn add_text(files: &mut String, text: &str) -> Result<(), Fail> {
-    let mut before = "";
+    let mut is_first = true;
     for line in text.split('`') {
-        files.push_str(before)?;
+        if !is_first {
+            files.push_str("\n")?;
+        }
         files.push_str(line)?;
-        before = "\n";
+        is_first = false;
     }
     Ok(())
 }
@@ -155,13 +157,16 @@ fn document(alloc: Global, record: &str) -> Result<String, Fail> {
 }
 
 fn add_required(text: &mut String, names: &str) -> Result<(), Fail> {
-    let mut separator = ",\n      \"requires\": [\n";
+    text.push_str(",\n      \"requires\": [\n")?;
+    let mut is_first = true;
     for name in names.split(' ') {
-        text.push_str(separator)?;
+        if !is_first {
+            text.push_str(",\n")?;
+        }
         text.push_str("        {\n          \"logical-name\": \"")?;
         text.push_str(name)?;
         text.push_str("\"\n        }")?;
-        separator = ",\n";
+        is_first = false;
     }
     text.push_str("\n      ]")?;
     Ok(())
