@@ -10,6 +10,3 @@ mod jobs;
 mod reading;
 
 pub use jobs::scan_jobs;
-
-#[cfg(test)]
-mod tests;
