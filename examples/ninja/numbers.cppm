@@ -1,0 +1,3 @@
+export module numbers;
+
+export int one_more(int number) { return number + 1; }

@@ -1,0 +1,4 @@
+export module text;
+export import :words;
+
+export const char *greeting();

@@ -1,0 +1,3 @@
+export module text:words;
+
+export int letters(const char *word);

@@ -1,0 +1,3 @@
+export module loud;
+
+export const char *mark() { return "!"; }

@@ -1,0 +1,3 @@
+export module quiet;
+
+export const char *mark() { return "."; }
