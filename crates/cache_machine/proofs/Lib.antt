@@ -1,0 +1,10 @@
+pub mod Sound
+pub mod NumberLemmas
+pub mod RowLemmas
+pub mod JobLemmas
+pub mod WorkerLemmas
+pub mod Changes
+pub mod Steps
+pub mod GrowingRows
+pub mod Reached
+pub mod WorkedRuns

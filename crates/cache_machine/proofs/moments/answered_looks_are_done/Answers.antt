@@ -1,0 +1,5 @@
+use Rattle.cache_machine.proofs.Reached.{reached_sound}
+use Rattle.cache_machine.proofs.moments.answered_looks_are_done.Goals as goal
+
+pub returns : goal.returns
+returns c = λ jobs settings workers m reached. (reached_sound jobs settings workers m reached).workers

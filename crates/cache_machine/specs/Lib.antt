@@ -1,0 +1,11 @@
+pub mod Rows
+pub mod Machine
+pub mod JobLooks
+pub mod Steps
+pub mod Spending
+pub mod Runs
+pub mod Wants
+pub mod RowGrowth
+pub mod WorkerRows
+pub mod Numbers
+pub mod Laws
