@@ -1,5 +1,5 @@
-use crate::fault_line;
-use scan_model::{Bytes, CommandFault, Fault, FaultKind, Place, UnitEnd};
+use crate::{fault_line, summary};
+use scan_model::{Bytes, CommandFault, Fault, FaultKind, Items, Place, Record, Text, UnitEnd};
 use std::alloc::Global;
 use std::test::Fail;
 
@@ -45,4 +45,38 @@ fn lines_have_three_forms(rt: HostRuntime) {
     let bad = UnitEnd::Refused(CommandFault::BadCommand);
     assert!(rt; writes(alloc, 3, Some(bad), b"command 3: BadCommand\n"));
     assert!(rt; writes(alloc, 4, Some(UnitEnd::NoMemory), b"command 4: NoMemory\n"));
+}
+
+fn record(alloc: Global) -> Option<UnitEnd> {
+    Some(UnitEnd::Record(Record {
+        output: Text::copy(alloc, "u.o").ok()?,
+        source: Text::copy(alloc, "/p/u.cpp").ok()?,
+        provides: None,
+        required: Items::new(alloc),
+    }))
+}
+
+fn some_ends(alloc: Global) -> Option<Items<UnitEnd>> {
+    let refused = UnitEnd::Refused(CommandFault::BadCommand);
+    let ends = vec![in alloc;
+        record(alloc)?,
+        stopped(alloc, FaultKind::BadLine, b"/p/u.cpp", 2)?,
+        refused,
+        record(alloc)?,
+        UnitEnd::NoMemory,
+        record(alloc)?,
+    ]
+    .ok()?;
+    Some(Items::of_vec(ends))
+}
+
+#[test]
+fn a_summary_counts_each_kind(rt: HostRuntime) -> Result<(), Fail> {
+    let Some(ends) = some_ends(rt.alloc()) else {
+        return Err("memory".into());
+    };
+    let text = summary(rt.alloc(), &ends, 18446744073709551615)?;
+    let want = b"commands 6\nrecords 3\nfaults 1\npaths 18446744073709551615\n";
+    assert_eq!(rt; text.as_slice(), want.as_slice());
+    Ok(())
 }

@@ -114,6 +114,17 @@ fn many_macros(rt: HostRuntime) -> Result<(), Fail> {
     is_as_said(&rt, alloc, "-c", many.as_str(), "requires a")
 }
 
+// A file may have 33,554,432 bytes.
+#[test]
+fn large_files(rt: HostRuntime) -> Result<(), Fail> {
+    let alloc = rt.alloc();
+    let before = "#include \"big.h\"`import a;@big.h ";
+    let most = main_file(alloc, before, " ", 33_554_432, "")?;
+    is_as_said(&rt, alloc, "-c", most.as_str(), "requires a")?;
+    let more = main_file(alloc, before, " ", 33_554_433, "")?;
+    is_as_said(&rt, alloc, "-c", more.as_str(), "/p/u.cpp:1: FileTooLarge")
+}
+
 #[test]
 fn costs(rt: HostRuntime) -> Result<(), Fail> {
     let alloc = rt.alloc();
