@@ -3,3 +3,4 @@ pub mod Search
 pub mod Merging
 pub mod Growing
 pub mod Steps
+pub mod Known

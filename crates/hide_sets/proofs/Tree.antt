@@ -75,7 +75,7 @@ latest-step names nodes sets set k node name t e s l h g =
     let named : get_or names node.name [] ≡ name = sym (get_or_read names node.name name (node-name names nodes k node t l h) g []) in
     (omega (arith, node-parent names nodes k node t l h), node-names names nodes sets set k node t e s l h ∙ ap (λ (s : List ℕ). s ∷ names_of sets node.parent) named)
 
-IsTree-name : (names : List (List ℕ)) (nodes : List Node) (name : List ℕ) → IsTree names nodes → IsTree (names ++ name ∷ []) nodes
+pub IsTree-name : (names : List (List ℕ)) (nodes : List Node) (name : List ℕ) → IsTree names nodes → IsTree (names ++ name ∷ []) nodes
 IsTree-name names nodes name t =
     record { named = λ k d l. omega (arith, t.named k d l, length_push names name); earlier = t.earlier }
 

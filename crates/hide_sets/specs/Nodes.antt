@@ -1,6 +1,8 @@
 -- How a table keeps its sets: each is one name more than an earlier one.
-use Rattle.std.specs.Prelude.{ℕ, ◌<◌, ◌≤◌, List, [], ◌∷◌, ◌++◌, length, slice_index_or}
+use Rattle.std.specs.Prelude.{◌≡◌, ℕ, ◌<◌, ◌≤◌, true, List, [], ◌∷◌, ◌++◌, length, slice_index_or}
+use Rattle.std.specs.List.{All}
 use Rattle.hide_sets.specs.declared.table.Node.{Node}
+use Rattle.scan_model.specs.TokenTests.{is_among}
 use Rattle.hide_sets.specs.Sets.{Sets, names_of}
 
 -- the names of a node's set, by the sets before it
@@ -11,6 +13,10 @@ names_with names sets node = slice_index_or names node.name [] ∷ names_of sets
 abbrev pub sets_from : List (List ℕ) → Sets → List Node → Sets
 sets_from names sets [] = sets
 sets_from names sets (node ∷ nodes) = sets_from names (sets ++ names_with names sets node ∷ []) nodes
+
+-- each of the names is known
+abbrev pub AreKnown : List (List ℕ) → List (List ℕ) → Type 0
+AreKnown known names = All (λ name. is_among known name ≡ true) names
 
 -- each node's name is there, and its parent comes before it
 pub record IsTree (names : List (List ℕ)) (nodes : List Node) : Type 0 where

@@ -6,6 +6,7 @@ use crate::HideSet;
 use scan_model::{Bytes, NoMemory};
 use std::alloc::Global;
 use std::marker::Model;
+use string_set::StringSet;
 
 /// A set that is one name more than an earlier one.
 #[derive(Clone, Copy)]
@@ -22,18 +23,20 @@ pub(crate) struct Node {
 pub struct HideSets {
     names: Vec<Bytes>,
     nodes: Vec<Node>,
+    /// The same names: one that isn't among them is in no set.
+    known: StringSet,
 }
 
 impl Model for HideSets {
     ghost use Rattle.std.specs.Prelude.{[]};
     ghost use Rattle.hide_sets.specs.Sets.{Sets};
-    ghost use Rattle.hide_sets.specs.Nodes.{IsTree, sets_from};
+    ghost use Rattle.hide_sets.specs.Nodes.{IsTree, AreKnown, sets_from};
 
     ghost Value = { Sets };
 
     ghost view = { λ table. sets_from table.names.items [] table.nodes.items };
 
-    ghost invariant = { λ table. IsTree table.names.items table.nodes.items };
+    ghost invariant = { λ table. IsTree table.names.items table.nodes.items × AreKnown table.known table.names.items };
 }
 
 /// The latest name of a set, and the set without it.
@@ -51,14 +54,18 @@ impl HideSets {
         HideSets {
             names: Vec::new(alloc),
             nodes: Vec::new(alloc),
+            known: StringSet::new(alloc),
         }
     }
 
-    /// Whether the set has the name. Linear in the set's size.
+    /// Whether the set has the name. Linear in the set's size where some set has the name, and else in constant time.
     pub fn hides(&self, set: HideSet, name: &[u8]) -> bool
         requires { IsSet self.now set }
         ensures { result ≡ hides_of self.now set name.now }
     {
+        if !self.known.contains(name) {
+            return false;
+        }
         let mut at = set;
         'names: while let Some(latest) = self.latest(at) {
             if latest.name == name {
@@ -75,8 +82,10 @@ impl HideSets {
         ensures ok { IfOk result (Makes self.old self.new (also name.now (hides_of self.old set))) }
         ensures err { OnErr result (self.new ≡ self.old) }
     {
+        let copy = Bytes::copy(alloc, name)?;
+        self.known.insert(name)?;
         let number = self.names.len();
-        self.names.push(Bytes::copy(alloc, name)?)?;
+        self.names.push(copy)?;
         self.nodes.push(Node {
             name: number,
             parent: set,
@@ -147,6 +156,9 @@ impl HideSets {
         ensures in_first { (name : List ℕ) → hides_of self.now result name ≡ true → hides_of self.now first name ≡ true }
         ensures in_second { (name : List ℕ) → hides_of self.now result name ≡ true → hides_of self.now second name ≡ true }
     {
+        if first.is_empty() || second.is_empty() {
+            return HideSet::empty();
+        }
         let mut left = first;
         let mut right = second;
         'names: while !left.is_same(right) {

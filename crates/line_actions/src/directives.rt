@@ -1,6 +1,7 @@
 ghost use Rattle.std.specs.Prelude.{◌≡◌, true, false, IfOk, OnErr};
 ghost use Rattle.scan_model.specs.Directives.{hash_line, plain_line};
-ghost use Rattle.plain_lines.specs.Lines.{IsThere, BeginsGroup, line_of, after_word};
+ghost use Rattle.scan_model.specs.Skips.{directive_in};
+ghost use Rattle.plain_lines.specs.Lines.{IsThere, BeginsGroup, toks_at, line_of, after_word};
 ghost use Rattle.plain_lines.specs.Actions.{Acts, IsSame};
 ghost use Rattle.line_actions.specs.Kinds.{is_if, is_next, is_plain};
 
@@ -71,12 +72,13 @@ pub(crate) fn plain_line(
     unit: &mut UnitState,
 ) -> Result<Action, NoMemory>
     requires there { IsThere at.now }
+    requires own { directive_in at.now.dialect (toks_at at.now) ≡ directive }
     requires plain { is_plain directive ≡ true }
     ensures ok { IfOk result (Acts at.now (λ files setup c. plain_line files setup c (line_of at.now) (after_word at.now) directive) file.old unit.old file.new unit.new) }
     ensures err { OnErr result (IsSame at.now.path.now file.old unit.old file.new unit.new) }
 {
     match directive {
-        Directive::Define => define_line(alloc, at, unit),
+        Directive::Define => define_line(at, unit),
         Directive::Undef => Ok(undef_line(at, unit)),
         Directive::Include => include_line(alloc, at, file, unit, false),
         Directive::IncludeNext => include_line(alloc, at, file, unit, true),

@@ -17,9 +17,7 @@ mod sites;
 pub use conditions::{Test, fault_of, is_nonzero, next_test};
 pub use includes::search_form;
 pub use line_action::act;
-pub use plain_lines::{
-    Action, Condition, FileState, KeptLine, OpenGroup, PathSet, UnitState, is_skipped,
-};
+pub use plain_lines::{Action, Condition, FileState, KeptLine, OpenGroup, UnitState, is_skipped};
 
 #[cfg(test)]
 mod tests;

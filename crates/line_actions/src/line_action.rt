@@ -9,7 +9,7 @@ ghost use Rattle.line_actions.specs.Kinds.{is_if, is_next, is_endif, or_skips};
 use crate::directives::{next_line, opening_line, plain_line};
 use crate::keyword_lines::module_line;
 use plain_lines::{
-    Action, FileState, KeptLine, OpenGroup, UnitState, directive, endif_line, is_hash, is_skipped,
+    Action, FileState, KeptLine, OpenGroup, UnitState, endif_line, is_hash, is_skipped,
 };
 use scan_model::{Directive, NoMemory};
 use std::alloc::Global;
@@ -93,7 +93,7 @@ fn hash_line(
     ensures ok { IfOk result (Acts at.now (λ files setup c. hash_line files setup c (line_of at.now) (after_word at.now) (directive_of at.now.dialect (drop 1 (toks_at at.now)))) file.old unit.old file.new unit.new) }
     ensures err { OnErr result (IsSame at.now.path.now file.old unit.old file.new unit.new) }
 {
-    let directive = directive(at);
+    let directive = at.directive();
     if is_if(directive) {
         let action = opening_line(alloc, at, directive, file, unit)?;
         return Ok(or_skips(&file.groups, action));

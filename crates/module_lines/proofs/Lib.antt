@@ -1,3 +1,4 @@
 pub mod Texts
 pub mod DottedNames
 pub mod Statements
+pub mod KnownNames

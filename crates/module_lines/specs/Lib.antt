@@ -1,4 +1,6 @@
 pub mod Identifiers
+pub mod Known
 pub mod Further
+pub mod Builders
 pub mod Found
 pub mod Lines

@@ -4,6 +4,7 @@
 mod dotted;
 mod names;
 mod record_builder;
+mod required_names;
 mod subject;
 mod token_tests;
 

@@ -1,15 +1,15 @@
 ghost use Rattle.std.specs.Prelude.{◌≡◌, IfOk, OnOk, OnErr, Some, is_some};
 ghost use Rattle.std.specs.Option.{option_map};
 ghost use Rattle.scan_model.specs.ModuleLines as line;
-ghost use Rattle.scan_model.specs.TokenTests.{is_among};
 ghost use Rattle.module_lines.specs.Found.{subject_of};
 ghost use Rattle.module_lines.specs.Identifiers.{HaveUtf8Names};
-ghost use Rattle.module_lines.specs.Lines.{Takes, with_name};
+ghost use Rattle.module_lines.specs.Lines.{Takes};
 
 use crate::names::with_part;
+use crate::required_names::RequiredNames;
 use crate::subject::{Subject, read_subject, statement};
 use crate::token_tests::names_header;
-use scan_model::{Items, Keyword, ModuleFault, NoMemory, Provided, Record, Text, Tok};
+use scan_model::{Keyword, ModuleFault, NoMemory, Provided, Record, Text, Tok};
 use std::alloc::Global;
 use std::marker::Model;
 
@@ -17,16 +17,20 @@ use std::marker::Model;
 #[derive(Drop)]
 pub struct RecordBuilder {
     alloc: Global,
-    so_far: Record,
+    output: Text,
+    source: Text,
+    provides: Option<Provided>,
+    required: RequiredNames,
     unit: Option<Text>,
 }
 
 impl Model for RecordBuilder {
     ghost use Rattle.scan_model.specs.ModuleLines.{Builder};
+    ghost use Rattle.module_lines.specs.Builders.{builder_of};
 
     ghost Value = { Builder };
 
-    ghost view = { λ b. record { so_far = b.so_far; unit = b.unit } };
+    ghost view = { λ b. builder_of b.output b.source b.provides b.required b.unit };
 }
 
 impl RecordBuilder {
@@ -37,12 +41,10 @@ impl RecordBuilder {
     {
         Ok(RecordBuilder {
             alloc,
-            so_far: Record {
-                output: Text::copy(alloc, output.as_str())?,
-                source: Text::copy(alloc, source.as_str())?,
-                provides: None,
-                required: Items::new(alloc),
-            },
+            output: Text::copy(alloc, output.as_str())?,
+            source: Text::copy(alloc, source.as_str())?,
+            provides: None,
+            required: RequiredNames::new(alloc),
             unit: None,
         })
     }
@@ -76,8 +78,19 @@ impl RecordBuilder {
     pub fn end(self) -> Record
         ensures { result ≡ self.so_far }
     {
-        let RecordBuilder { so_far, .. } = self;
-        so_far
+        let RecordBuilder {
+            output,
+            source,
+            provides,
+            required,
+            ..
+        } = self;
+        Record {
+            output,
+            source,
+            provides,
+            required: required.into_items(),
+        }
     }
 
     fn has_module(&self) -> bool
@@ -112,12 +125,12 @@ impl RecordBuilder {
         }
         let unit = Text::copy(self.alloc, name.as_str())?;
         if exported {
-            self.so_far.provides = Some(Provided {
+            self.provides = Some(Provided {
                 name,
                 interface: true,
             });
         } else {
-            require(&mut self.so_far.required, name)?;
+            self.required.add(name)?;
         }
         self.unit = Some(unit);
         Ok(Ok(()))
@@ -136,7 +149,7 @@ impl RecordBuilder {
             return Ok(Err(ModuleFault::SecondModule));
         }
         let whole = with_part(self.alloc, &name, &part)?;
-        self.so_far.provides = Some(Provided {
+        self.provides = Some(Provided {
             name: whole,
             interface: exported,
         });
@@ -149,7 +162,7 @@ impl RecordBuilder {
     {
         match subject {
             Some(Subject::Name(name)) => {
-                require(&mut self.so_far.required, name)?;
+                self.required.add(name)?;
                 Ok(Ok(()))
             }
             Some(Subject::Partition(part)) => self.import_partition(&part),
@@ -169,7 +182,7 @@ impl RecordBuilder {
             return Ok(Err(ModuleFault::PartitionOutsideModule));
         };
         let whole = with_part(self.alloc, name, part)?;
-        require(&mut self.so_far.required, whole)?;
+        self.required.add(whole)?;
         Ok(Ok(()))
     }
 }
@@ -181,24 +194,4 @@ fn is_header_import(keyword: Keyword, toks: &[Tok]) -> bool
         Keyword::Module => false,
         Keyword::Import => !toks.is_empty() && names_header(&toks[0]),
     }
-}
-
-/// Adds the name, unless it is there. Want of memory changes nothing.
-fn require(required: &mut Items<Text>, name: Text) -> Result<(), NoMemory>
-    ensures ok { OnOk result (required.new ≡ with_name required.old name) }
-    ensures err { OnErr result (required.new ≡ required.old) }
-{
-    if is_required(required.as_slice(), name.as_slice()) {
-        return Ok(());
-    }
-    match required.push(name) {
-        Ok(()) => Ok(()),
-        Err(_) => Err(NoMemory),
-    }
-}
-
-fn is_required(names: &[Text], name: &[u8]) -> bool
-    ensures { result ≡ is_among names.now name.now }
-{
-    names.iter().any(|other| other.as_slice() == name)
 }

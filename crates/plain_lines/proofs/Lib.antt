@@ -1,7 +1,6 @@
 pub mod Chains
-pub mod WordLemmas
+pub mod DirectiveLemmas
 pub mod Places
-pub mod PathLemmas
 pub mod GroupLemmas
 pub mod ConditionLemmas
 pub mod ActLemmas

@@ -4,7 +4,7 @@ use Rattle.std.specs.Prelude.{⊤, Option, Some, None, Result, Ok, Err, OnOk, On
 use Rattle.std.specs.Option.{option_map, option_and_then}
 use Rattle.std.specs.List.{AllByRecursion}
 use Rattle.std.proofs.lemmas.List.Elements.{All-nil, All-cons, All-head, All-tail}
-use Rattle.std.proofs.Math.Logic.{∥∥₁_map}
+use Rattle.std.proofs.Math.Logic.{∥∥₁_map, ∥∥₁_prop}
 use Rattle.scan_model.specs.declared.memory.NoMemory.{NoMemory}
 use Rattle.scan_model.specs.declared.token.Kind.TheVariants.{Ident, Number}
 use Rattle.scan_model.specs.declared.token.Tok.{Tok}
@@ -21,6 +21,7 @@ use Rattle.module_lines.specs.Identifiers.{HasUtf8Name, HaveUtf8Names}
 use Rattle.replaced_names.specs.Names.{HasUtf8Body, HaveUtf8Bodies, IsUtf8Map}
 use Rattle.macro_table.specs.Table.{SlotView, macros_of}
 use Rattle.macro_table.specs.Definition.{is_replacement, IsDefinition}
+use Rattle.plain_lines.specs.declared.state.UnitState.{UnitState}
 use Rattle.replaced_names.proofs.Lists.{never, Good, good_of, names_of, if_cond, if_map, if_then}
 
 -- ## Changes of the map
@@ -159,3 +160,11 @@ utf8-changes old new m utf8 step e = ∥∥₁_map utf8 (λ (h : IsUtf8Map (macr
 
 pub utf8-begins : (new : List (List ℕ × SlotView)) (dialect : Dialect) → macros_of new ≡ first_macros dialect → ∥ IsUtf8Map (macros_of new) ∥₁
 utf8-begins new dialect e = ∣ subst IsUtf8Map (sym e) (utf8-first dialect) ∣₁
+
+-- a unit whose macros are the same is the same
+pub unit_stays : {X E : Type 0} (r : Result X E) (unit : UnitState) (macros : List (List ℕ × SlotView)) (utf8 : ∥ IsUtf8Map (macros_of macros) ∥₁) → macros ≡ unit.macros
+    → OnErr r (◌≡◌ {A = UnitState} (record { macros = macros; once = unit.once; builder = unit.builder; utf8 = utf8 }) unit)
+unit_stays (Ok x) unit macros utf8 e = tt
+unit_stays (Err x) unit macros utf8 e =
+    subst (λ (m : List (List ℕ × SlotView)). (u : ∥ IsUtf8Map (macros_of m) ∥₁) → ◌≡◌ {A = UnitState} (record { macros = m; once = unit.once; builder = unit.builder; utf8 = u }) unit) (sym e)
+    (λ u. ap (λ (v : ∥ IsUtf8Map (macros_of unit.macros) ∥₁). let made : UnitState = record { macros = unit.macros; once = unit.once; builder = unit.builder; utf8 = v } in made) (∥∥₁_prop u unit.utf8)) utf8

@@ -1,36 +1,31 @@
 ghost use Rattle.std.specs.Prelude.{◌≡◌, IfOk, OnErr};
 ghost use Rattle.scan_model.specs.MacroDefinition as definition;
 ghost use Rattle.scan_model.specs.Directives.{defined, undef_line};
+ghost use Rattle.scan_model.specs.Skips.{directive_in};
+ghost use Rattle.scan_model.specs.declared.directive.Directive.TheVariants as Directive;
 ghost use Rattle.plain_lines.specs.declared.state.FileState.{FileState};
-ghost use Rattle.plain_lines.specs.Lines.{IsThere, line_of, after_word};
+ghost use Rattle.plain_lines.specs.Lines.{IsThere, toks_at, line_of, after_word};
 ghost use Rattle.plain_lines.specs.Actions.{Acts};
 
 use crate::action::Action;
 use crate::kept_line::KeptLine;
 use crate::state::UnitState;
 use crate::token_tests::is_ident;
-use macro_table::{BadDefine, read_define};
 use scan_model::{FaultKind, NoMemory};
-use std::alloc::Global;
 
-/// `#define` ([cpp.replace]). Want of memory changes nothing.
-pub fn define_line(
-    alloc: Global,
-    at: &KeptLine<'_>,
-    unit: &mut UnitState,
-) -> Result<Action, NoMemory>
-    requires { IsThere at.now }
+/// `#define` ([cpp.replace]). Its definition is shared with the kept lines, which have it ready. Want of memory changes
+/// nothing.
+pub fn define_line(at: &KeptLine<'_>, unit: &mut UnitState) -> Result<Action, NoMemory>
+    requires there { IsThere at.now }
+    requires define { directive_in at.now.dialect (toks_at at.now) ≡ Directive.Define }
     ensures ok { IfOk result (λ action. (file : FileState) → Acts at.now (λ files setup c. defined c (line_of at.now) (definition.read_define (after_word at.now))) file unit.old file unit.new action) }
     ensures err { OnErr result (unit.new ≡ unit.old) }
 {
-    let toks = at.copy_from(alloc, 2)?;
-    match read_define(alloc, &toks)? {
-        Ok((name, def)) => {
-            unit.macros.define(name, def)?;
-            Ok(Action::Goes)
-        }
-        Err(BadDefine) => Ok(Action::Stops(FaultKind::BadDefine)),
-    }
+    let Some(definition) = at.lines.define(at.place) else {
+        return Ok(Action::Stops(FaultKind::BadDefine));
+    };
+    unit.macros.define_shared(definition.name, definition.def)?;
+    Ok(Action::Goes)
 }
 
 /// `#undef` ([cpp.scope]).

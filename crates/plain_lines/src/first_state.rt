@@ -3,12 +3,12 @@ ghost use Rattle.scan_model.specs.ModuleLines.{new};
 ghost use Rattle.scan_model.specs.Macros.{first_macros, cplusplus_23};
 ghost use Rattle.macro_table.specs.Table.{macros_of};
 
-use crate::path_set::PathSet;
 use crate::state::UnitState;
 use macro_table::Macros;
 use module_lines::RecordBuilder;
 use scan_model::{Bytes, Def, Dialect, Items, Kind, NoMemory, Text, Tok};
 use std::alloc::Global;
+use string_set::StringSet;
 
 // What `__cplusplus` is defined as in C++23 ([cpp.predefined]).
 fn cplusplus_23(alloc: Global) -> Result<Def, NoMemory>
@@ -61,7 +61,7 @@ impl UnitState {
         let builder = RecordBuilder::new(alloc, output, source)?;
         Ok(UnitState {
             macros,
-            once: PathSet::new(alloc),
+            once: StringSet::new(alloc),
             builder,
         })
     }

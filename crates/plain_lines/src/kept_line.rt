@@ -3,7 +3,7 @@ ghost use Rattle.module_lines.specs.Identifiers.{HaveUtf8Names};
 ghost use Rattle.reducer.specs.Views.{view};
 
 use reducer::{LineHead, Reduced, TokView};
-use scan_model::{Bytes, Dialect, NoMemory, Tok};
+use scan_model::{Bytes, Dialect, Directive, NoMemory, Tok};
 use std::alloc::Global;
 
 /// A kept line of a file, and what its directive must know of the file and the command.
@@ -22,7 +22,19 @@ pub struct KeptLine<'a> {
 }
 
 impl<'a> KeptLine<'a> {
-    ghost use Rattle.plain_lines.specs.Lines.{IsThere, toks_at};
+    ghost use Rattle.scan_model.specs.Directives.{directive_of};
+    ghost use Rattle.scan_model.specs.Skips.{directive_in};
+    ghost use Rattle.plain_lines.specs.Lines.{IsThere, BeginsHash, toks_at};
+
+    /// The directive of a line that begins with `#` ([cpp.pre]). It is looked up.
+    pub fn directive(&self) -> Directive
+        requires there { IsThere self.now }
+        requires hash { BeginsHash self.now }
+        ensures line { result ≡ directive_in self.now.dialect (toks_at self.now) }
+        ensures word { result ≡ directive_of self.now.dialect (drop 1 (toks_at self.now)) }
+    {
+        self.lines.directive(self.place, self.dialect)
+    }
 
     /// The token of this place, from 0; None past the last one.
     pub fn tok(&self, i: u32) -> Option<TokView<'a>>

@@ -5,11 +5,9 @@
 mod action;
 mod conditionals;
 mod definitions;
-mod directive_words;
 mod first_state;
 mod groups;
 mod kept_line;
-mod path_set;
 mod pragmas;
 mod state;
 mod token_tests;
@@ -20,10 +18,8 @@ pub use conditionals::{
     skipped_if_line,
 };
 pub use definitions::{define_line, undef_line};
-pub use directive_words::directive;
 pub use groups::{choose, innermost, is_skipped};
 pub use kept_line::KeptLine;
-pub use path_set::PathSet;
 pub use pragmas::pragma_line;
 pub use state::{FileState, OpenGroup, UnitState};
 pub use token_tests::{is_hash, is_header, is_ident, unquoted};

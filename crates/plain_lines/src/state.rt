@@ -1,10 +1,10 @@
 ghost use Rattle.macro_table.specs.Table.{macros_of};
 ghost use Rattle.replaced_names.specs.Names.{IsUtf8Map};
 
-use crate::path_set::PathSet;
 use macro_table::Macros;
 use module_lines::RecordBuilder;
 use scan_model::Site;
+use string_set::StringSet;
 
 /// An open conditional ([cpp.cond]).
 #[derive(Clone, Copy)]
@@ -35,7 +35,7 @@ pub struct FileState {
 pub struct UnitState {
     pub macros: Macros,
     /// The paths of the files with `#pragma once`.
-    pub once: PathSet,
+    pub once: StringSet,
     /// The record of the module and import lines so far.
     pub builder: RecordBuilder,
     /// The text of each identifier in a definition is well-formed UTF-8.

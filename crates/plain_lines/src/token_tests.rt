@@ -1,5 +1,5 @@
 ghost use Rattle.std.specs.Prelude.{◌≡◌, [], ◌∷◌};
-ghost use Rattle.scan_model.specs.declared.token.Kind.TheVariants.{Ident, Number, Header};
+ghost use Rattle.scan_model.specs.declared.token.Kind.TheVariants.{Ident, Header};
 ghost use Rattle.scan_model.specs.Spelling.{is_one_of};
 ghost use Rattle.scan_model.specs.TokenTests.{is_of, is_open_paren, is_close_paren, is_plain_string, unquoted};
 ghost use Rattle.reducer.specs.Views.{view};
@@ -18,12 +18,6 @@ pub fn is_ident(tok: TokView<'_>) -> bool
     ensures { result ≡ is_of Ident (view tok.entry) }
 {
     matches!(tok.kind, Kind::Ident)
-}
-
-pub fn is_number(tok: TokView<'_>) -> bool
-    ensures { result ≡ is_of Number (view tok.entry) }
-{
-    matches!(tok.kind, Kind::Number)
 }
 
 pub fn is_header(tok: TokView<'_>) -> bool

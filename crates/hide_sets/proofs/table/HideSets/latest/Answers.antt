@@ -11,7 +11,7 @@ index-requires c =
     let node = c.index-node.result.now in
     let k = c.number-2.result - 1 in
     let l : k < length c.self.inside.nodes.items = omega (arith, length-sets c.self.inside.names.items c.self.inside.nodes.items c.args.self.now c.self.view_is) in
-    let h : node.name < length c.self.inside.names.items = subst (λ (n : Node). n.name < length c.self.inside.names.items) (sym c.index-node.ensures) (c.self.invariant.named k node l) in
+    let h : node.name < length c.self.inside.names.items = subst (λ (n : Node). n.name < length c.self.inside.names.items) (sym c.index-node.ensures) (c.self.invariant.0.named k node l) in
     omega (arith, c.self.inside.names.ok.0)
 
 pub returns : goal.returns
@@ -20,4 +20,4 @@ returns c =
     let l : k < length c.self.inside.nodes.items = omega (arith, length-sets c.self.inside.names.items c.self.inside.nodes.items c.args.self.now c.self.view_is) in
     let s : c.args.set ≡ suc k = omega arith in
     let name : c.as_slice.result.now ≡ get_or c.self.inside.names.items c.index-node.result.now.name c.as_slice.result.now = rw c.as_slice.ensures c.index.ensures in
-    latest-step c.self.inside.names.items c.self.inside.nodes.items c.args.self.now c.args.set k c.index-node.result.now c.as_slice.result.now c.self.invariant c.self.view_is s l c.index-node.ensures name
+    latest-step c.self.inside.names.items c.self.inside.nodes.items c.args.self.now c.args.set k c.index-node.result.now c.as_slice.result.now c.self.invariant.0 c.self.view_is s l c.index-node.ensures name

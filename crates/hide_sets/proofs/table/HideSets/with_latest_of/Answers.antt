@@ -12,9 +12,9 @@ invariant_of-self-2 c =
     let node : Node = record { name = c.index.result.now.name; parent = c.args.set } in
     let k = c.number.result - 1 in
     let l : k < length c.self.inside.nodes.items = omega (arith, length-sets c.self.inside.names.items c.self.inside.nodes.items c.args.self.now c.self.view_is) in
-    let named = node-name c.self.inside.names.items c.self.inside.nodes.items k c.index.result.now c.self.invariant l c.index.ensures in
+    let named = node-name c.self.inside.names.items c.self.inside.nodes.items k c.index.result.now c.self.invariant.0 l c.index.ensures in
     let parent : c.args.set ≤ length c.self.inside.nodes.items = omega (arith, c.requires.set, length-sets c.self.inside.names.items c.self.inside.nodes.items c.args.self.now c.self.view_is) in
-    rw c.in_ok-push.ensures.items (IsTree-node c.self.inside.names.items c.self.inside.nodes.items node c.self.invariant named parent)
+    rw c.in_ok-push.ensures.items (IsTree-node c.self.inside.names.items c.self.inside.nodes.items node c.self.invariant.0 named parent, c.self.invariant.1)
 
 pub returns-clause-ok : goal.returns-clause-ok
 returns-clause-ok c =
@@ -22,7 +22,7 @@ returns-clause-ok c =
     let k = c.number.result - 1 in
     let l : k < length c.self.inside.nodes.items = omega (arith, length-sets c.self.inside.names.items c.self.inside.nodes.items c.args.self.now c.self.view_is) in
     let s : c.args.other ≡ suc k = omega arith in
-    let whole = node-names c.self.inside.names.items c.self.inside.nodes.items c.args.self.now c.args.other k c.index.result.now c.self.invariant c.self.view_is s l c.index.ensures in
+    let whole = node-names c.self.inside.names.items c.self.inside.nodes.items c.args.self.now c.args.other k c.index.result.now c.self.invariant.0 c.self.view_is s l c.index.ensures in
     let name : get_or c.self.inside.names.items c.index.result.now.name [] ≡ latest_of c.args.self.now c.args.other = sym (ap (λ (v : List (List ℕ)). get_or v 0 []) whole) in
     let count : c.of_number.result ≡ length c.push.new.self.items = c.of_number.ensures ∙ c.len.ensures ∙ c.push.new.self.ok.0 in
     node-made c.self.inside.names.items c.self.inside.nodes.items c.push.new.self.items c.args.self.now _ (latest_of c.args.self.now c.args.other) node _ c.self.view_is c.in_ok-push.ensures.items refl name c.requires.set count

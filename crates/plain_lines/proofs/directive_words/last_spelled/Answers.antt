@@ -1,8 +1,0 @@
-use Rattle.std.proofs.Common.{refl}
-use Rattle.plain_lines.specs.DirectiveWords.{last_spelled}
-use Rattle.plain_lines.proofs.Chains.{last_of_3, unlike}
-use Rattle.plain_lines.proofs.directive_words.last_spelled.Goals as goal
-
-pub returns-else-eq-3 : goal.returns-else-eq-3
-unfolding last_spelled
-returns-else-eq-3 c = last_of_3 _ _ _ _ _ _ _ _ (unlike _ _ _ c.as_slice.ensures c.if-eq.ensures) (unlike _ _ _ c.as_slice-else-eq.ensures c.if-eq-2.ensures) (unlike _ _ _ c.as_slice-else-eq-2.ensures c.if-eq-3.ensures) refl
