@@ -15,7 +15,7 @@ use Rattle.unit_steps.specs.UnitView.{UnitView, Phase, Runs, Asks, Over, Spent, 
 use Rattle.unit_steps.proofs.Callers.{agrees_given}
 use Rattle.shard_cache.specs.Rows.{ShardView}
 use Rattle.shard_cache.specs.StoreMap.{IsOneMap}
-use Rattle.job_scan.specs.Ends.{IsEnd}
+use Rattle.shard_cache.specs.Ends.{IsEnd}
 use Rattle.job_scan.specs.Growing.{IsLarger, AsksOnly}
 use Rattle.job_scan.proofs.StoreGrowth.{files_of, contains_begun, Agrees-grown, IsLarger-same, IsLarger-chain, AsksOnly-same, AsksOnly-wider, AsksOnly-chain}
 

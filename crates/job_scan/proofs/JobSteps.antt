@@ -16,7 +16,7 @@ use Rattle.unit_laws.specs.Growth.{Extends}
 use Rattle.shard_cache.specs.Rows.{ShardView, all_asked, all_origins}
 use Rattle.shard_cache.specs.StoreMap.{IsOneMap, IsUntouched}
 use Rattle.shard_cache.proofs.MapLemmas.{IsUntouched-IsOneMap}
-use Rattle.job_scan.specs.Ends.{IsEnd, AreEnds, IsLookedAt}
+use Rattle.shard_cache.specs.Ends.{IsEnd, AreEnds, IsLookedAt}
 use Rattle.job_scan.specs.Growing.{IsLarger, AsksOnly}
 use Rattle.job_scan.proofs.StoreGrowth.{files_of, IsEnd-grown, looked_grown}
 

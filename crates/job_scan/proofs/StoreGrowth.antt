@@ -16,7 +16,7 @@ use Rattle.unit_laws.specs.KnownAnswers.{Agrees}
 use Rattle.unit_laws.proofs.GrowingAnswers.{answer_stays, looked_grows, begins_longer}
 use Rattle.shard_cache.specs.Rows.{ShardView, all_rows, all_asked}
 use Rattle.shard_cache.specs.StoreMap.{file_map, IsOneMap}
-use Rattle.job_scan.specs.Ends.{IsEnd}
+use Rattle.shard_cache.specs.Ends.{IsEnd}
 use Rattle.job_scan.specs.Growing.{IsLarger, AsksOnly}
 
 -- what the rows of a store stand for

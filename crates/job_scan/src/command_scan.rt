@@ -3,7 +3,7 @@ ghost use Rattle.scan_model.specs.Answer.{looked};
 ghost use Rattle.scan_model.specs.Fits.{CommandFits, SettingsFit};
 ghost use Rattle.shard_cache.specs.Rows.{all_rows};
 ghost use Rattle.shard_cache.specs.StoreMap.{file_map, HaveRows, IsOneMap};
-ghost use Rattle.job_scan.specs.Ends.{IsEnd};
+ghost use Rattle.shard_cache.specs.Ends.{IsEnd};
 ghost use Rattle.job_scan.specs.Growing.{IsLarger, AsksOnly};
 
 use crate::answering::answer_at;

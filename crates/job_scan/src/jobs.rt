@@ -3,7 +3,7 @@ ghost use Rattle.scan_model.specs.Answer.{looked};
 ghost use Rattle.scan_model.specs.Fits.{JobFits, SettingsFit};
 ghost use Rattle.shard_cache.specs.Rows.{all_rows, all_asked, all_origins};
 ghost use Rattle.shard_cache.specs.StoreMap.{file_map, HaveRows, IsOneMap, IsUntouched};
-ghost use Rattle.job_scan.specs.Ends.{IsEnd, AreEnds, IsLookedAt};
+ghost use Rattle.shard_cache.specs.Ends.{IsEnd, AreEnds, IsLookedAt};
 ghost use Rattle.job_scan.specs.Growing.{IsLarger, AsksOnly};
 
 use crate::command_scan::scan_command;

@@ -17,7 +17,7 @@ use Rattle.compile_db.specs.declared.database.DbFault.TheVariants.{TooMany}
 use Rattle.compile_db.specs.Database.{database, entries_from, limited, max_entries, of_items, of_value, value_of}
 use Rattle.scan_model.specs.Fits.{JobFits, SettingsFit}
 use Rattle.command_words.specs.Jobs.{job_of}
-use Rattle.job_scan.specs.Ends.{AreEnds, IsEnd}
+use Rattle.shard_cache.specs.Ends.{AreEnds, IsEnd}
 use Rattle.scanner.specs.Verdict.{PlanFits}
 
 -- ## The number of commands

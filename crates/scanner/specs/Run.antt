@@ -5,7 +5,7 @@ use Rattle.scan_model.specs.declared.unit_end.UnitEnd.{UnitEnd}
 use Rattle.scan_model.specs.Files.{FileMap}
 use Rattle.shard_cache.specs.Rows.{ShardView, all_rows}
 use Rattle.shard_cache.specs.StoreMap.{file_map, HaveRows, IsUntouched}
-use Rattle.job_scan.specs.Ends.{AreEnds, IsLookedAt}
+use Rattle.shard_cache.specs.Ends.{AreEnds, IsLookedAt}
 use Rattle.scanner.specs.declared.refusal.Refusal.{Refusal}
 use Rattle.scanner.specs.declared.status.Status.TheVariants as Statuses
 use Rattle.scanner.specs.declared.verdict.Plan.{Plan}

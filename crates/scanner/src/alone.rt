@@ -3,7 +3,7 @@ ghost use Rattle.file_source.specs.Givens.{IsGiven};
 ghost use Rattle.program_words.specs.Words.{texts_of, words_of};
 ghost use Rattle.shard_cache.specs.Rows.{all_rows, all_asked, all_origins};
 ghost use Rattle.shard_cache.specs.StoreMap.{file_map, IsOneMap, IsUntouched};
-ghost use Rattle.job_scan.specs.Ends.{IsLookedAt};
+ghost use Rattle.shard_cache.specs.Ends.{IsLookedAt};
 ghost use Rattle.scanner.specs.Verdict.{database_path, read_of, verdict, PlanFits, VerdictFits};
 ghost use Rattle.scanner.specs.Asked.{AsksDatabase};
 ghost use Rattle.scanner.specs.Statuses.{number};

@@ -1,7 +1,7 @@
 use Rattle.std.proofs.Common.{◌≡◌, ◌≤◌, length, take, vec_len}
 use Rattle.std.specs.Vec.{vec_capacity}
 use Rattle.shard_cache.specs.StoreMap.{HaveRows}
-use Rattle.job_scan.specs.Ends.{AreEnds}
+use Rattle.shard_cache.specs.Ends.{AreEnds}
 use Rattle.job_scan.proofs.StoreGrowth.{files_of}
 use Rattle.job_scan.proofs.JobSteps.{IsScanned}
 use Rattle.job_scan.proofs.jobs.scan_jobs.Given as goal
