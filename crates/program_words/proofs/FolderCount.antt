@@ -64,7 +64,10 @@ options_short =
           record { missing = All-nil IsShort; defaults = All-cons IsShort (codes "4") [] (lit≤ tt) (All-nil IsShort); no_count = tt },
           (
             record { missing = All-nil IsShort; defaults = All-nil IsShort; no_count = tt },
-            (record { missing = All-nil IsShort; defaults = All-nil IsShort; no_count = tt }, tt),
+            (
+              record { missing = All-nil IsShort; defaults = All-nil IsShort; no_count = tt },
+              (record { missing = All-nil IsShort; defaults = All-nil IsShort; no_count = tt }, tt),
+            ),
           ),
         ),
       ),

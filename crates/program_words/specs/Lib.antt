@@ -1,3 +1,4 @@
 pub mod Alone
+pub mod Numbers
 pub mod Options
 pub mod Words

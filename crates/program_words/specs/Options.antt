@@ -25,6 +25,10 @@ predefines_rule = text_rule (codes "predefines")
 abbrev pub folders_rule : Rule
 folders_rule = text_rule (codes "system-dirs")
 
+-- `--schedule` takes a number below 2 ^ 31
+abbrev pub schedule_rule : Rule
+schedule_rule = record (text_rule (codes "schedule")) { parser = Some (parser.Signed (pos 0) (pos 2147483647)) }
+
 -- the argument is that option, of this command alone
 abbrev pub IsRule : Rule → Arg → Type 0
 IsRule rule arg = (rule_of arg ≡ rule) × (arg.global ≡ false)
@@ -34,4 +38,4 @@ abbrev pub bare_app : App
 bare_app = on_top (λ s. record s { disable_help_flag = true }) (new_app (codes "scan_deps"))
 
 abbrev pub app : App
-app = with_rule (with_rule (with_rule (with_rule (with_rule bare_app database_rule) format_rule) workers_rule) predefines_rule) folders_rule
+app = with_rule (with_rule (with_rule (with_rule (with_rule (with_rule bare_app database_rule) format_rule) workers_rule) predefines_rule) folders_rule) schedule_rule

@@ -12,6 +12,7 @@ use Rattle.scan_model.specs.Paths.{normal}
 use Rattle.scan_model.specs.TokenTests.{same}
 use Rattle.program_words.specs.declared.reading.Usage.{Usage}
 use Rattle.program_words.specs.declared.reading.Words.{Words}
+use Rattle.program_words.specs.Numbers.{number_or_zero}
 use Rattle.program_words.specs.Options.{app}
 
 abbrev pub texts_of : List (String Global) → List (List ℕ)
@@ -23,6 +24,10 @@ is_known_format format = option_map_or (λ name. same name (codes "p1689")) form
 -- the number of workers; `clap` takes no text but of a number from 1 to 64
 abbrev pub workers_of : Option (List ℕ) → ℕ
 workers_of text = option_map_or (λ number. max 1 (min 64 (byte_or_zero number))) text 4
+
+-- the number of the schedule; `clap` takes no text but of a number below 2 ^ 31
+abbrev pub schedule_of : Option (List ℕ) → ℕ
+schedule_of text = option_map_or (λ number. min 2147483647 (number_or_zero number)) text 0
 
 -- the folders that stand between colons, none of them empty
 abbrev pub is_colon : ℕ → Bool
@@ -55,6 +60,7 @@ abbrev pub words_with : List Row → List ℕ → Words
 words_with rows database = record {
   database = normal database;
   workers = workers_of (value (codes "j") rows);
+  schedule = schedule_of (value (codes "schedule") rows);
   settings = settings_of rows;
 }
 
@@ -81,9 +87,11 @@ IsParse words (Some m) = (is_empty (fault_of app words) ≡ true) × (rows_of (f
 unfoldable pub words_of : List (List ℕ) → Result Words Usage
 words_of words = if is_empty (fault_of app words) then by_rows (matches_of app words) else Err usage
 
--- there are to be 1 to 64 workers
-abbrev pub HasWorkers : Words → Type 0
-HasWorkers words = (1 ≤ words.workers) × (words.workers ≤ 64)
+-- there are to be 1 to 64 workers, and the schedule's number is below 2 ^ 31
+pub record HasRanges (words : Words) : Type 0 where
+  pub some_worker : 1 ≤ words.workers
+  pub few_workers : words.workers ≤ 64
+  pub schedule : words.schedule ≤ 2147483647
 
 -- a word that is no longer than the words of a command line may be
 abbrev pub IsShortWord : String Global → Type 0

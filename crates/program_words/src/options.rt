@@ -1,6 +1,6 @@
 ghost use Rattle.std.specs.Prelude.{◌≡◌, IfOk, false};
 ghost use Rattle.clap.specs.Words.{app_of, rule_of};
-ghost use Rattle.program_words.specs.Options.{IsRule, app, database_rule, format_rule, workers_rule, predefines_rule, folders_rule};
+ghost use Rattle.program_words.specs.Options.{IsRule, app, database_rule, format_rule, workers_rule, predefines_rule, folders_rule, schedule_rule};
 
 use clap::{Arg, Command};
 use std::alloc::{AllocError, Global};
@@ -40,6 +40,14 @@ fn folders_option<'a>(alloc: Global) -> Arg<'a>
     Arg::new(alloc, "system-dirs").long("system-dirs")
 }
 
+fn schedule_option<'a>(alloc: Global) -> Arg<'a>
+    ensures { IsRule schedule_rule result }
+{
+    Arg::new(alloc, "schedule")
+        .long("schedule")
+        .value_parser(clap::value_parser!(u32).range(0..=2147483647))
+}
+
 /// The program's options, for `clap`. It has no help flag, no version flag and no positional.
 pub(crate) fn command<'a>(alloc: Global) -> Result<Command<'a>, AllocError>
     ensures { IfOk result (λ command. app_of command ≡ app) }
@@ -50,5 +58,6 @@ pub(crate) fn command<'a>(alloc: Global) -> Result<Command<'a>, AllocError>
         .arg(format_option(alloc))?
         .arg(workers_option(alloc))?
         .arg(predefines_option(alloc))?
-        .arg(folders_option(alloc))
+        .arg(folders_option(alloc))?
+        .arg(schedule_option(alloc))
 }

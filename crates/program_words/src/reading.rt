@@ -3,7 +3,8 @@ ghost use Rattle.std.specs.List.{All, slice_split};
 ghost use Rattle.clap.specs.Words.{found_of, rows_of, first_of};
 ghost use Rattle.clap.specs.Walk.{byte_or_zero};
 ghost use Rattle.scan_model.specs.Paths.{normal};
-ghost use Rattle.program_words.specs.Words.{IsParse, texts_of, is_known_format, workers_of, is_colon, with_part, folders_in, folders_of, settings_of, words_with, by_rows, by_parse, words_of, HasWorkers, IsShortWord};
+ghost use Rattle.program_words.specs.Words.{IsParse, texts_of, is_known_format, workers_of, is_colon, with_part, folders_in, folders_of, settings_of, words_with, by_rows, by_parse, words_of, schedule_of, HasRanges, IsShortWord};
+ghost use Rattle.program_words.specs.Numbers.{number_or_zero};
 ghost use Rattle.scan_model.specs.Fits.{SettingsFit};
 
 use crate::options::command;
@@ -24,6 +25,8 @@ pub struct Words {
     pub database: PathText,
     /// How many workers there are to be, from 1 to 64.
     pub workers: u32,
+    /// With which number the schedule of a run on one thread begins, below 2 ^ 31.
+    pub schedule: u32,
     pub settings: Settings,
 }
 
@@ -69,6 +72,21 @@ fn workers_of(text: Option<&str>) -> u32
     match text {
         Some(text) => u32::from(number_of(text)).min(64).max(1),
         None => 4,
+    }
+}
+
+fn schedule_number(text: &str) -> u32
+    ensures { result ≡ number_or_zero text.now }
+{
+    text.parse::<u32>().unwrap_or(0)
+}
+
+fn schedule_of(text: Option<&str>) -> u32
+    ensures { result ≡ schedule_of (option_map (λ text. text.now) text.entry) }
+{
+    match text {
+        Some(text) => schedule_number(text).min(2147483647),
+        None => 0,
     }
 }
 
@@ -126,6 +144,7 @@ fn words_with(alloc: Global, matches: &ArgMatches<'_>, database: &str) -> Result
     Ok(Words {
         database: normal(alloc, database.as_bytes())?,
         workers: workers_of(value(matches, "j")),
+        schedule: schedule_of(value(matches, "schedule")),
         settings: settings_of(alloc, matches)?,
     })
 }
@@ -164,11 +183,11 @@ fn read_words(alloc: Global, words: &Vec<String>) -> Result<Result<Words, Usage>
 ///
 /// `--compilation-database` is the database's path, `-j` the number of workers, from 1 to 64 and 4 where it isn't given,
 /// `--predefines` the file of the compiler's own macros, `--system-dirs` folders between colons, of which empty ones are
-/// dropped, and `--format` is `p1689`. `Usage` comes exactly where `clap` finds a fault in the words, the format is
+/// dropped, `--schedule` a number below 2 ^ 31, and `--format` is `p1689`. `Usage` comes exactly where `clap` finds a fault in the words, the format is
 /// another one, or no database is named. `Err` is want of memory alone.
 pub fn read(alloc: Global, words: &Vec<String>) -> Result<Result<Words, Usage>, NoMemory>
     ensures reads { IfOk result (λ read. read ≡ words_of (texts_of words.now.items)) }
-    ensures workers { IfOk result (λ read. IfOk read HasWorkers) }
+    ensures ranges { IfOk result (λ read. IfOk read HasRanges) }
     ensures fits { All IsShortWord words.now.items
         → IfOk result (λ read. IfOk read (λ words. SettingsFit words.settings)) }
 {

@@ -90,14 +90,14 @@ fn some_words_ask_for_one_thread(rt: HostRuntime) -> Result<(), Fail> {
     Ok(())
 }
 
-// Words, and what they ask for: the database, the workers, the predefines file and each folder; or `usage`.
+// Words, and what they ask for: the database, the workers, the schedule unless it is 0, the predefines file and each folder; or `usage`.
 #[derive(Clone, Copy)]
 struct WordsRow {
     words: &'static str,
     asked: &'static str,
 }
 
-const WORDS: [WordsRow; 20] = [
+const WORDS: [WordsRow; 24] = [
     WordsRow {
         words: "--compilation-database=/p/./db.json",
         asked: "/p/db.json 4",
@@ -171,7 +171,23 @@ const WORDS: [WordsRow; 20] = [
         asked: "usage",
     },
     WordsRow {
-        words: "--compilation-database=d --schedule=1",
+        words: "--compilation-database=d --schedule=7",
+        asked: "d 4 N:7",
+    },
+    WordsRow {
+        words: "--schedule +2147483647 --compilation-database=d -j 3",
+        asked: "d 3 N:2147483647",
+    },
+    WordsRow {
+        words: "--compilation-database=d --schedule=2147483648",
+        asked: "usage",
+    },
+    WordsRow {
+        words: "--compilation-database=d --schedule=-1",
+        asked: "usage",
+    },
+    WordsRow {
+        words: "--compilation-database=d --schedule",
         asked: "usage",
     },
     WordsRow {
@@ -188,6 +204,10 @@ fn shown(alloc: Global, words: &Vec<String>) -> Result<Vec<u8>, NoMemory> {
     let mut shown = Vec::from_slice(alloc, words.database.as_slice())?;
     shown.push(b' ')?;
     shown.extend_from_slice(words.workers.to_string(alloc)?.as_bytes())?;
+    if words.schedule > 0 {
+        shown.extend_from_slice(b" N:")?;
+        shown.extend_from_slice(words.schedule.to_string(alloc)?.as_bytes())?;
+    }
     if let Some(path) = &words.settings.predefines {
         shown.extend_from_slice(b" P:")?;
         shown.extend_from_slice(path.as_slice())?;
