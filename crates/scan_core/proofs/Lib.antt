@@ -1,0 +1,16 @@
+pub mod ListLemmas
+pub mod UnitLemmas
+pub mod RowLookups
+pub mod SeatLemmas
+pub mod WantingSeats
+pub mod Changing
+pub mod Answering
+pub mod DrawLemmas
+pub mod LookLemmas
+pub mod PublishedRows
+pub mod PublishLemmas
+pub mod ReadLemmas
+pub mod EndLemmas
+pub mod StartLemmas
+pub mod StepLemmas
+pub mod RunningLemmas
