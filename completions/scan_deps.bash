@@ -27,7 +27,7 @@ _scan_deps() {
         --format) mapfile -t COMPREPLY < <(compgen -W p1689 -- "$value") ;;
         -j) mapfile -t COMPREPLY < <(compgen -W '1 2 4 8 16 32 64' -- "$value") ;;
         *)
-            mapfile -t COMPREPLY < <(compgen -W '--compilation-database= --format= -j --predefines= --system-dirs=' -- "$word")
+            mapfile -t COMPREPLY < <(compgen -W '--compilation-database= --format= -j --predefines= --schedule= --system-dirs=' -- "$word")
             [[ ${COMPREPLY[0]-} != *= ]] || compopt -o nospace
             ;;
     esac

@@ -18,6 +18,8 @@ use Rattle.compile_db.specs.Database.{database, entries_from, limited, max_entri
 use Rattle.scan_model.specs.Fits.{JobFits, SettingsFit}
 use Rattle.command_words.specs.Jobs.{job_of}
 use Rattle.shard_cache.specs.Ends.{AreEnds, IsEnd}
+use Rattle.program_words.specs.declared.reading.Words.{Words}
+use Rattle.program_words.specs.Words.{HasRanges}
 use Rattle.scanner.specs.Verdict.{PlanFits}
 
 -- ## The number of commands
@@ -45,10 +47,14 @@ unfolding database
 few_entries text entries e = value_few (value_of text) entries e
 
 -- the plan of a database fits
-pub PlanFits-of : (text : List ℕ) (entries : List Entry) (jobs : List Job) (settings : Settings) → Ok entries ≡ database text → jobs ≡ map (λ entry. job_of entry) entries → All JobFits jobs → SettingsFit settings → PlanFits (record { jobs = jobs; settings = settings })
-PlanFits-of text entries jobs settings read made fit settings_fit = record {
+pub PlanFits-of : (text : List ℕ) (entries : List Entry) (jobs : List Job) (words : Words) → Ok entries ≡ database text → jobs ≡ map (λ entry. job_of entry) entries → All JobFits jobs → SettingsFit words.settings → HasRanges words
+    → PlanFits (record { jobs = jobs; settings = words.settings; workers = words.workers; schedule = words.schedule })
+PlanFits-of text entries jobs words read made fit settings_fit ranges = record {
   jobs = fit;
   settings = settings_fit;
+  some_worker = ranges.some_worker;
+  few_workers = ranges.few_workers;
+  schedule = ranges.schedule;
   few = subst (λ n. n ≤ max_entries) (sym (ap (λ js. length js) made ∙ length-map entries (λ entry. job_of entry))) (few_entries text entries (sym read));
 }
 

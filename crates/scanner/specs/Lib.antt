@@ -5,3 +5,4 @@ pub mod Asked
 pub mod Sinks
 pub mod Printed
 pub mod Run
+pub mod Scheduled

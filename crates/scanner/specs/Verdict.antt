@@ -1,6 +1,5 @@
 -- What a run has to do, by its words and by what the one read of the database gave.
 use Rattle.std.specs.Prelude.{◌≤◌, ⊤, ℕ, List, length, map, All, Option, Some, None, option_map, Result, Ok, Err}
-use Rattle.scan_model.specs.declared.command.Settings.{Settings}
 use Rattle.scan_model.specs.Fits.{JobFits, SettingsFit}
 use Rattle.scan_model.specs.declared.outcome.Outcome.{Outcome}
 use Rattle.scan_model.specs.declared.outcome.Outcome.TheVariants.{Present, Absent, Failed, Big, NoMemory}
@@ -35,9 +34,14 @@ read_of outcome bytes given = option_map (λ g. record { outcome = outcome g; by
 
 -- ## The verdict
 
--- a command for each entry, in order, with the settings of the words
-abbrev pub plan_of : Settings → List Entry → Plan
-plan_of settings entries = record { jobs = map (λ entry. job_of entry) entries; settings = settings }
+-- a command for each entry, in order, with what the words say of all of them
+abbrev pub plan_of : Words → List Entry → Plan
+plan_of words entries = record {
+  jobs = map (λ entry. job_of entry) entries;
+  settings = words.settings;
+  workers = words.workers;
+  schedule = words.schedule;
+}
 
 abbrev pub of_fault : DbFault → Refusal
 of_fault FaultIs.NotJson = RefusalIs.NotJson
@@ -45,17 +49,17 @@ of_fault FaultIs.NotArray = RefusalIs.NotArray
 of_fault (FaultIs.BadEntry number) = RefusalIs.BadEntry number
 of_fault (FaultIs.TooMany count) = RefusalIs.TooMany
 
-abbrev pub of_database : Settings → Result (List Entry) DbFault → Verdict
-of_database settings (Ok entries) = Scan (plan_of settings entries)
-of_database settings (Err fault) = Refuse (of_fault fault)
+abbrev pub of_database : Words → Result (List Entry) DbFault → Verdict
+of_database words (Ok entries) = Scan (plan_of words entries)
+of_database words (Err fault) = Refuse (of_fault fault)
 
 -- none where the read found no memory
-abbrev pub of_read : Settings → Outcome → List ℕ → Option Verdict
-of_read settings Present bytes = Some (of_database settings (database bytes))
-of_read settings Absent bytes = Some (Refuse RefusalIs.DbAbsent)
-of_read settings Failed bytes = Some (Refuse RefusalIs.DbFailed)
-of_read settings Big bytes = Some (Refuse RefusalIs.DbBig)
-of_read settings NoMemory bytes = None
+abbrev pub of_read : Words → Outcome → List ℕ → Option Verdict
+of_read words Present bytes = Some (of_database words (database bytes))
+of_read words Absent bytes = Some (Refuse RefusalIs.DbAbsent)
+of_read words Failed bytes = Some (Refuse RefusalIs.DbFailed)
+of_read words Big bytes = Some (Refuse RefusalIs.DbBig)
+of_read words NoMemory bytes = None
 
 -- Of what the words ask for, and of what the database's read gave. None where memory was wanting before there was a
 -- verdict.
@@ -63,15 +67,19 @@ abbrev pub verdict : Result Words Usage → Option Read → Option Verdict
 verdict (Err usage) None = Some (Refuse RefusalIs.Usage)
 verdict (Err usage) (Some read) = None
 verdict (Ok words) None = None
-verdict (Ok words) (Some read) = of_read words.settings read.outcome read.bytes
+verdict (Ok words) (Some read) = of_read words read.outcome read.bytes
 
 -- ## The size of a plan
 
--- a scan takes the commands and the settings, and there are no more commands than a database may have
+-- A scan takes the commands and the settings. There are no more commands than a database may have, 1 to 64 workers, and
+-- the schedule's number is below 2 ^ 31.
 pub record PlanFits (plan : Plan) : Type 0 where
   pub jobs : All JobFits plan.jobs
   pub settings : SettingsFit plan.settings
   pub few : length plan.jobs ≤ max_entries
+  pub some_worker : 1 ≤ plan.workers
+  pub few_workers : plan.workers ≤ 64
+  pub schedule : plan.schedule ≤ 2147483647
 
 abbrev pub VerdictFits : Verdict → Type 0
 VerdictFits (Refuse refusal) = ⊤

@@ -9,6 +9,7 @@ ghost use Rattle.scanner.specs.Asked.{AsksDatabase};
 ghost use Rattle.scanner.specs.Statuses.{number};
 ghost use Rattle.scanner.specs.Sinks.{put_to};
 ghost use Rattle.scanner.specs.Run.{IsRun, IsRefusedOr, IsSought};
+ghost use Rattle.scanner.specs.Scheduled.{FollowsSchedule};
 
 use crate::printing::{print_ends, put, tell_no_memory};
 use crate::refusal::Refusal;
@@ -16,12 +17,14 @@ use crate::status::Status;
 use crate::verdict::{Plan, Verdict, read_verdict};
 use crate::{Ended, Outside};
 use file_source::{Sink, Source};
-use job_scan::scan_jobs;
 use scan_model::NoMemory;
+use scheduler::run_schedule;
 use shard_cache::Store;
 use std::alloc::Global;
 
 /// Reads the words and the database, scans its commands on this thread, and prints. It waits for nobody.
+///
+/// As many workers as the words ask for make one step after another, on the schedule that begins with the words' number.
 ///
 /// The statuses: 0 where every command has its record, 1 where some command ended without one, 2 for words that are
 /// refused, 3 for a database that can't be read, 4 for one that isn't well-formed, 5 for one with too many entries, 6
@@ -59,6 +62,10 @@ pub fn scan_alone<S: Source, K: Sink, E: Sink>(
     ensures looked { All (IsSought (file_map S.given_outcome S.given_bytes (all_rows result.outside.store))
         (verdict (words_of (texts_of words.now.items)) (read_of S.given_outcome S.given_bytes result.db_given))) (all_asked result.outside.store) }
 
+    // Unless the run found no memory, the rows stand in the order in which the schedule publishes them.
+    ensures order { FollowsSchedule S.given_outcome S.given_bytes
+        (verdict (words_of (texts_of words.now.items)) (read_of S.given_outcome S.given_bytes result.db_given)) outside.store result.outside.store result.status }
+
     // The sources are those that were handed in.
     ensures db_origin { S.origin result.outside.db ≡ S.origin outside.db }
     ensures origins { all_origins result.outside.store ≡ all_origins outside.store }
@@ -91,6 +98,7 @@ fn carry_out<S: Source, K: Sink, E: Sink>(
         (put_to K.held K.faults K.puts out.old out.new) (put_to E.held E.faults E.puts err.old err.new) (number result) }
     ensures one_map { IsOneMap S.given_path S.given_origin store.new }
     ensures looked { All (IsSought (file_map S.given_outcome S.given_bytes (all_rows store.new)) (Some verdict.now)) (all_asked store.new) }
+    ensures order { FollowsSchedule S.given_outcome S.given_bytes (Some verdict.now) store.old store.new (number result) }
     ensures origins { all_origins store.new ≡ all_origins store.old }
 {
     match verdict {
@@ -128,9 +136,18 @@ fn scan<S: Source, K: Sink, E: Sink>(
     ensures one_map { IsOneMap S.given_path S.given_origin store.new }
     ensures looked { All (IsLookedAt (file_map S.given_outcome S.given_bytes (all_rows store.new)) plan.now.settings plan.now.jobs)
         (all_asked store.new) }
+    ensures order { FollowsSchedule S.given_outcome S.given_bytes (Some (Verdict.Scan plan.now)) store.old store.new (number result) }
     ensures origins { all_origins store.new ≡ all_origins store.old }
 {
-    match scan_jobs(alloc, plan.jobs.as_slice(), &plan.settings, store) {
+    let run = run_schedule(
+        alloc,
+        &plan.jobs,
+        &plan.settings,
+        plan.workers,
+        plan.schedule,
+        store,
+    );
+    match run {
         Ok(ends) => print_ends(alloc, &ends, out, err),
         Err(NoMemory) => tell_no_memory(err),
     }

@@ -35,6 +35,51 @@ struct Case {
 
 const WORDS: &str = "--compilation-database=/p/db.json -j 1";
 
+// A header that is absent when it is asked for first, and there when it would be asked for again.
+const COMES_LATER: Case = Case {
+    words: WORDS,
+    database: TWO,
+    files: "/p/a.cpp
+#if __has_include(\"x.h\")
+import x;
+#else
+import none;
+#endif
+~/p/b.cpp
+#if __has_include(\"x.h\")
+import x;
+#else
+import none;
+#endif
+~/p/x.h comes",
+    status: 0,
+    out: BOTH_REQUIRE_NONE,
+    err: "",
+    paths: 3,
+};
+
+// A header whose read fails, which two of three commands include.
+const FAILS_FOR_TWO: Case = Case {
+    words: WORDS,
+    database: THREE,
+    files: "/p/a.cpp\n#include \"s.h\"\n~/p/b.cpp\n#include \"s.h\"\n~/p/c.cpp\nimport c;\n~/p/s.h fails",
+    status: 1,
+    out: C_REQUIRES_C,
+    err: "command 1: /p/a.cpp:1: ReadFault\ncommand 2: /p/b.cpp:1: ReadFault\n",
+    paths: 4,
+};
+
+// A usual database.
+const USUAL: Case = Case {
+    words: USUAL_WORDS,
+    database: USUAL_DATABASE,
+    files: USUAL_FILES,
+    status: 0,
+    out: USUAL_DOCUMENT,
+    err: "",
+    paths: 8,
+};
+
 const SCANS: [Case; 17] = [
     Case {
         words: WORDS,
@@ -144,45 +189,9 @@ const SCANS: [Case; 17] = [
         err: "command 1: /p/u.cpp:0: ReadFault\n",
         paths: 1,
     },
-    Case {
-        words: WORDS,
-        database: TWO,
-        files: "/p/a.cpp
-#if __has_include(\"x.h\")
-import x;
-#else
-import none;
-#endif
-~/p/b.cpp
-#if __has_include(\"x.h\")
-import x;
-#else
-import none;
-#endif
-~/p/x.h comes",
-        status: 0,
-        out: BOTH_REQUIRE_NONE,
-        err: "",
-        paths: 3,
-    },
-    Case {
-        words: WORDS,
-        database: THREE,
-        files: "/p/a.cpp\n#include \"s.h\"\n~/p/b.cpp\n#include \"s.h\"\n~/p/c.cpp\nimport c;\n~/p/s.h fails",
-        status: 1,
-        out: C_REQUIRES_C,
-        err: "command 1: /p/a.cpp:1: ReadFault\ncommand 2: /p/b.cpp:1: ReadFault\n",
-        paths: 4,
-    },
-    Case {
-        words: USUAL_WORDS,
-        database: USUAL_DATABASE,
-        files: USUAL_FILES,
-        status: 0,
-        out: USUAL_DOCUMENT,
-        err: "",
-        paths: 8,
-    },
+    COMES_LATER,
+    FAILS_FOR_TWO,
+    USUAL,
     Case {
         words: WORDS,
         database: REFUSED,
@@ -355,7 +364,12 @@ fn outside(
 }
 
 fn is_as_said(rt: &impl Abort, alloc: Global, case: &Case) -> Result<(), Fail> {
-    let words = words_of(alloc, case.words)?;
+    is_as_said_by(rt, alloc, case.words, case)
+}
+
+// The same with other words.
+fn is_as_said_by(rt: &impl Abort, alloc: Global, words: &str, case: &Case) -> Result<(), Fail> {
+    let words = words_of(alloc, words)?;
     assert!(rt; words.iter().all(|word| word.len() <= 33_554_432));
     let outside = outside(alloc, script(alloc, case.database)?, case.files)?;
     let mut out = MemorySink::new(alloc, 16_777_216, Items::new(alloc))?;
@@ -372,6 +386,24 @@ fn is_as_said(rt: &impl Abort, alloc: Global, case: &Case) -> Result<(), Fail> {
 fn scans(rt: HostRuntime) -> Result<(), Fail> {
     for case in SCANS {
         is_as_said(&rt, rt.alloc(), &case)?;
+    }
+    Ok(())
+}
+
+#[test]
+fn schedules(rt: HostRuntime) -> Result<(), Fail> {
+    let alloc = rt.alloc();
+    for case in [COMES_LATER, FAILS_FOR_TWO] {
+        let words = "--compilation-database=/p/db.json -j 3 --schedule=5";
+        is_as_said_by(&rt, alloc, words, &case)?;
+    }
+    for workers in [1u32, 2, 4, 64] {
+        for number in 0..100u32 {
+            let words = format!(in alloc;
+                "--compilation-database=/p/build/compile_commands.json --predefines=/p/predef.h -j {workers} --schedule={number}"
+            )?;
+            is_as_said_by(&rt, alloc, words.as_str(), &USUAL)?;
+        }
     }
     Ok(())
 }

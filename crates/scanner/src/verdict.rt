@@ -1,6 +1,6 @@
 ghost use Rattle.std.specs.Prelude.{◌≡◌, [], Some, All, IfOk, IfSome, map, option_map};
 ghost use Rattle.file_source.specs.Givens.{IsGiven};
-ghost use Rattle.program_words.specs.Words.{IsShortWord, texts_of, words_of};
+ghost use Rattle.program_words.specs.Words.{IsShortWord, HasRanges, texts_of, words_of};
 ghost use Rattle.scan_model.specs.Fits.{JobFits, SettingsFit};
 ghost use Rattle.compile_db.specs.Database.{database};
 ghost use Rattle.command_words.specs.Jobs.{job_of};
@@ -20,6 +20,10 @@ use std::alloc::Global;
 pub(crate) struct Plan {
     pub(crate) jobs: Items<Job>,
     pub(crate) settings: Settings,
+    /// How many workers scan them, from 1 to 64.
+    pub(crate) workers: u32,
+    /// With which number their schedule begins, below 2 ^ 31.
+    pub(crate) schedule: u32,
 }
 
 /// What a run has to do.
@@ -46,36 +50,28 @@ pub(crate) fn read_verdict<S: Source>(
     ensures asked { AsksDatabase (database_path (words_of (texts_of words.now.items))) (S.asked db.new)
         (option_map S.given_path result.1) }
 {
-    let Words {
-        database,
-        settings,
-        ..
-    } = match program_words::read(alloc, words) {
+    let words = match program_words::read(alloc, words) {
         Ok(Ok(words)) => words,
         Ok(Err(Usage)) => return (Ok(Verdict::Refuse(Refusal::Usage)), None),
         Err(NoMemory) => return (Err(NoMemory), None),
     };
-    let opener = match db.ask(alloc, &database) {
+    let opener = match db.ask(alloc, &words.database) {
         Ok(opener) => opener,
         Err(NoMemory) => return (Err(NoMemory), None),
     };
     let given = S::read(alloc, opener);
-    let verdict = of_read(alloc, S::outcome(&given), S::bytes(&given), settings);
+    let verdict = of_read(alloc, S::outcome(&given), S::bytes(&given), words);
     (verdict, Some(given))
 }
 
-fn of_read(
-    alloc: Global,
-    outcome: Outcome,
-    bytes: &[u8],
-    settings: Settings,
-) -> Result<Verdict, NoMemory>
-    requires { SettingsFit settings }
-    ensures verdict { IfOk result (λ v. of_read settings outcome bytes.now ≡ Some v) }
+fn of_read(alloc: Global, outcome: Outcome, bytes: &[u8], words: Words) -> Result<Verdict, NoMemory>
+    requires settings { SettingsFit words.settings }
+    requires ranges { HasRanges words }
+    ensures verdict { IfOk result (λ v. of_read words outcome bytes.now ≡ Some v) }
     ensures fits { IfOk result VerdictFits }
 {
     match outcome {
-        Outcome::Present => of_database(alloc, bytes, settings),
+        Outcome::Present => of_database(alloc, bytes, words),
         Outcome::Absent => Ok(Verdict::Refuse(Refusal::DbAbsent)),
         Outcome::Failed => Ok(Verdict::Refuse(Refusal::DbFailed)),
         Outcome::Big => Ok(Verdict::Refuse(Refusal::DbBig)),
@@ -83,15 +79,27 @@ fn of_read(
     }
 }
 
-fn of_database(alloc: Global, bytes: &[u8], settings: Settings) -> Result<Verdict, NoMemory>
-    requires { SettingsFit settings }
-    ensures verdict { IfOk result (λ v. v ≡ of_database settings (database bytes.now)) }
+fn of_database(alloc: Global, bytes: &[u8], words: Words) -> Result<Verdict, NoMemory>
+    requires settings { SettingsFit words.settings }
+    requires ranges { HasRanges words }
+    ensures verdict { IfOk result (λ v. v ≡ of_database words (database bytes.now)) }
     ensures fits { IfOk result VerdictFits }
 {
     match compile_db::read(alloc, bytes)? {
         Ok(entries) => {
             let jobs = jobs_of(alloc, entries.as_slice())?;
-            Ok(Verdict::Scan(Plan { jobs, settings }))
+            let Words {
+                workers,
+                schedule,
+                settings,
+                ..
+            } = words;
+            Ok(Verdict::Scan(Plan {
+                jobs,
+                settings,
+                workers,
+                schedule,
+            }))
         }
         Err(fault) => Ok(Verdict::Refuse(of_fault(fault))),
     }

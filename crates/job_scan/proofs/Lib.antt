@@ -1,4 +1,0 @@
-pub mod RowSteps
-pub mod StoreGrowth
-pub mod CommandSteps
-pub mod JobSteps

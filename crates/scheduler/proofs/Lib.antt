@@ -1,0 +1,12 @@
+pub mod WantCases
+pub mod Turns
+pub mod MoverLemmas
+pub mod Following
+pub mod MovingLemmas
+pub mod StoreSteps
+pub mod LookLemmas
+pub mod Running
+pub mod Scheduled
+pub mod EndLists
+pub mod RunEnd
+pub mod RunStart

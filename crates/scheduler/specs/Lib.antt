@@ -1,0 +1,5 @@
+pub mod Reading
+pub mod Schedule
+pub mod Moments
+pub mod Moving
+pub mod Order

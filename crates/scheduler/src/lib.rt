@@ -1,0 +1,15 @@
+//! The jobs of a database, scanned by several workers over one store of files, one step of one worker at a time.
+//!
+//! Which worker makes the next step is told by a schedule, so that each run can be made again. Whatever the schedule, a
+//! path is read once, and all jobs have their ends over one map of files.
+#![tactic(auto)]
+
+mod ends;
+mod movers;
+mod moving;
+mod number;
+mod reading;
+mod run;
+mod told;
+
+pub use run::run_schedule;
