@@ -47,9 +47,8 @@ impl Memo {
         }
     }
 
-    /// Keeps an answer, where there is memory for it. Nothing that is kept ever changes or goes.
+    /// Keeps an answer, where there is memory for it; the path has this one then. What is kept of other paths stays.
     pub fn add(&mut self, path: &PathText, answer: &Answer)
-        requires { known_to self.old path.now ≡ None }
         ensures { IsKnownFurther self.old path.now (content_of answer.now) self.new }
     {
         let Ok(shared) = answer.share() else {
