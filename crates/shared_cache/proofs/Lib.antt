@@ -1,0 +1,9 @@
+pub mod LookLemmas
+pub mod SharedLemmas
+pub mod SeenLemmas
+pub mod ShownLemmas
+pub mod RowsLemmas
+pub mod ClosedLemmas
+pub mod HandsLemmas
+pub mod CloseLemmas
+pub mod NewLemmas
