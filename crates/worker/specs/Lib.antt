@@ -1,0 +1,4 @@
+pub mod Seen
+pub mod Claims
+pub mod Shares
+pub mod Work
