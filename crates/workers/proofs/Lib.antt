@@ -1,0 +1,7 @@
+pub mod OrderLemmas
+pub mod PlaceLemmas
+pub mod NumberLemmas
+pub mod RowLemmas
+pub mod EndLemmas
+pub mod HandLemmas
+pub mod ScanLemmas
