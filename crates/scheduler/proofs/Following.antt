@@ -1,15 +1,14 @@
 -- The machine of the run goes the way of the schedule, as long as memory isn't wanting.
-use Rattle.std.proofs.Common.{◌≡◌, ◌⊎◌, inl, inr, ℕ, zero, suc, List, [], ◌∷◌, ◌++◌, length, slice_get, refl, ap, sym, ◌∙◌, subst, Option, Some, None}
+use Rattle.std.proofs.Common.{◌≡◌, ◌⊎◌, inl, inr, ℕ, zero, suc, List, [], ◌++◌, refl, ap, sym, ◌∙◌, Some}
 use Rattle.std.specs.List.{AllByRecursion}
 use Rattle.scan_model.specs.declared.command.Settings.{Settings}
 use Rattle.scan_model.specs.declared.command.Job.{Job}
-use Rattle.scan_model.specs.declared.unit_end.UnitEnd.TheVariants as Ends
-use Rattle.scan_model.specs.Files.{FileMap, Content}
-use Rattle.cache_machine.specs.Machine.{Machine, Over, worker_at}
+use Rattle.scan_model.specs.Files.{FileMap}
+use Rattle.cache_machine.specs.Machine.{Machine, Over}
 use Rattle.cache_machine.specs.Steps.{Event, act}
 use Rattle.cache_machine.specs.Runs.{start}
-use Rattle.cache_machine.specs.Wants.{Want, wanted, wants}
-use Rattle.scheduler.specs.Schedule.{Scheduled, next_number, chosen, movers, published_by, content_or, event_for, wanted_event, steps_by, step_of, scheduled_step, scheduled_steps, scheduled_start, IsScheduledRun}
+use Rattle.cache_machine.specs.Wants.{wanted}
+use Rattle.scheduler.specs.Schedule.{Scheduled, next_number, chosen, movers, published_by, wanted_event, steps_by, step_of, scheduled_step, scheduled_steps, scheduled_start, IsScheduledRun}
 use Rattle.scan_core.specs.Events.{worker_in}
 use Rattle.scheduler.specs.Moments.{IsShort, HasMoved, HaveRead}
 use Rattle.scheduler.proofs.Turns.{IsTurn, read_before}

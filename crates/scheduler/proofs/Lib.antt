@@ -4,9 +4,11 @@ pub mod MoverLemmas
 pub mod Following
 pub mod MovingLemmas
 pub mod StoreSteps
+pub mod StoreGrowth
 pub mod LookLemmas
 pub mod Running
 pub mod Scheduled
 pub mod EndLists
 pub mod RunEnd
 pub mod RunStart
+pub mod StartLemmas

@@ -1,5 +1,5 @@
 -- The k-th path that job n looks at is one that some job looks at.
-use Rattle.std.proofs.Common.{◌≡◌, ◌<◌, ℕ, zero, suc, List, [], ◌∷◌, length, slice_get, Contains, get_or, refl, ap, sym, subst, Option, Some, None, arith}
+use Rattle.std.proofs.Common.{◌≡◌, ◌<◌, ℕ, zero, suc, List, [], ◌∷◌, length, slice_get, Contains, get_or, refl, Option, Some, None, arith}
 use Rattle.scan_model.specs.declared.command.Settings.{Settings}
 use Rattle.scan_model.specs.declared.command.Job.{Job}
 use Rattle.scan_model.specs.Files.{FileMap}

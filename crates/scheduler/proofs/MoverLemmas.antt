@@ -1,18 +1,16 @@
 -- The workers that can move, and the one that the schedule chooses.
-use Rattle.std.proofs.Common.{◌≡◌, ◌≢◌, ◌⊎◌, inl, inr, ℕ, zero, suc, ◌+◌, ◌/◌, ◌%◌, ◌<◌, ◌≤◌, Bool, true, false, if◌then◌else◌, List, [], ◌∷◌, ◌++◌, length, slice_get, refl, ap, sym, ◌∙◌, subst, Option, Some, None, mod-lt, length-append, arith}
+use Rattle.std.proofs.Common.{◌≡◌, ◌⊎◌, inl, inr, ℕ, zero, suc, ◌/◌, ◌%◌, ◌<◌, Bool, true, false, if◌then◌else◌, List, [], ◌∷◌, ◌++◌, length, slice_get, refl, ap, sym, ◌∙◌, subst, Some, None, arith}
 use Rattle.std.specs.Prelude.{slice_index_or}
 use Rattle.std.specs.List.{filter, AllByRecursion}
 use Rattle.std.proofs.lemmas.Bool.{cases_eq}
 use Rattle.std.proofs.lemmas.List.Elements.{filter-append}
 use Rattle.scan_model.specs.declared.command.Settings.{Settings}
 use Rattle.scan_model.specs.declared.command.Job.{Job}
-use Rattle.cache_machine.specs.Rows.{Claimed, Row, held_at}
 use Rattle.cache_machine.specs.Machine.{Machine, Worker, Idle, At, Claiming, Holding, Spent, Over, worker_at}
 use Rattle.cache_machine.specs.WorkerRows.{IsClaimant}
 use Rattle.cache_machine.specs.Wants.{Want, Draw_wanted, Look_wanted, Read_wanted, Publish_wanted, End_wanted, Waits, Is_over, wants_as, wants}
 use Rattle.cache_machine.proofs.Sound.{IsSound}
 use Rattle.cache_machine.proofs.WorkerLemmas.{get_there}
-use Rattle.cache_machine.proofs.JobLemmas.{get_append as get_stays}
 use Rattle.scheduler.specs.Schedule.{chosen, can_move, numbers_below, movers_below, movers}
 use Rattle.scheduler.proofs.WantCases.{waits_is, over_is}
 
@@ -22,15 +20,6 @@ get_append : {A : Type 0} (xs ys : List A) (k : ℕ) (x : A) → slice_get (xs +
 get_append [] ys k x h = inr (k, h)
 get_append (a ∷ xs) ys zero x h = inl h
 get_append (a ∷ xs) ys (suc k) x h = get_append xs ys k x h
-
-get_past : {A : Type 0} (xs : List A) (k : ℕ) → length xs ≤ k → slice_get xs k ≡ None
-get_past [] k h = refl
-get_past (a ∷ xs) zero h = absurd (omega arith)
-get_past (a ∷ xs) (suc k) h = get_past xs k (omega arith)
-
-get_at : {A : Type 0} (xs ys : List A) (x : A) → slice_get (xs ++ x ∷ ys) (length xs) ≡ Some x
-get_at [] ys x = refl
-get_at (a ∷ xs) ys x = get_at xs ys x
 
 nothing_left : {A : Type 0} (xs ys : List A) → xs ++ ys ≡ [] → (xs ≡ []) × (ys ≡ [])
 nothing_left [] ys h = (refl, h)
@@ -55,12 +44,6 @@ module _ (jobs : List Job) (settings : Settings) (m : Machine) where
   pub below_suc : (n : ℕ) → below (suc n) ≡ below n ++ one_if_moves (moves n) n
   below_suc n = filter-append moves (numbers_below n) (n ∷ []) ∙ ap (λ z. below n ++ z) (one_filtered n (moves n) refl)
 
-  pub below_moves : (n : ℕ) → moves n ≡ true → below (suc n) ≡ below n ++ n ∷ []
-  below_moves n h = below_suc n ∙ ap (λ b. below n ++ one_if_moves b n) h
-
-  pub below_waits : (n : ℕ) → moves n ≡ false → below (suc n) ≡ below n ++ []
-  below_waits n h = below_suc n ∙ ap (λ b. below n ++ one_if_moves b n) h
-
   -- ## One that is chosen
 
   one_moves : (n j w : ℕ) (b : Bool) → moves n ≡ b → slice_get (one_if_moves b n) j ≡ Some w → (moves w ≡ true) × (w ≡ n)
@@ -78,21 +61,6 @@ module _ (jobs : List Job) (settings : Settings) (m : Machine) where
   -- it can move
   pub chosen_moves : (x w : ℕ) → chosen (movers jobs settings m) x ≡ Some w → (moves w ≡ true) × (w < length m.workers)
   chosen_moves x w h = mover_in (length m.workers) ((x / 65536) % length (movers jobs settings m)) w h
-
-  found_in : (n w : ℕ) → w < n → moves w ≡ true → slice_get (below n) (length (below w)) ≡ Some w
-  found_in zero w less h = absurd (omega arith)
-  found_in (suc n) w less h = elim (cases_eq w n) [
-    | inl here ↦ subst (λ z. slice_get (below (suc z)) (length (below w)) ≡ Some w) here
-        (subst (λ z. slice_get z (length (below w)) ≡ Some w) (sym (below_moves w h)) (get_at (below w) [] w))
-    | inr other ↦ subst (λ z. slice_get z (length (below w)) ≡ Some w) (sym (below_suc n)) (get_stays (below n) (one_if_moves (moves n) n) (length (below w)) w (found_in n w (omega arith) h))
-  ]
-
-  -- a worker that can move stands behind those below it
-  pub mover_found : (w place : ℕ) → w < length m.workers → moves w ≡ true → place ≡ length (below w) → slice_get (movers jobs settings m) place ≡ Some w
-  mover_found w place less h is = subst (λ z. slice_get (movers jobs settings m) z ≡ Some w) (sym is) (found_in (length m.workers) w less h)
-
-  pub none_there : (w place : ℕ) → w ≡ length m.workers → length (below w) ≤ place → slice_get (movers jobs settings m) place ≡ None
-  none_there w place all past = get_past (movers jobs settings m) place (subst (λ z. length (below z) ≤ place) all past)
 
   -- ## Where none is chosen
 

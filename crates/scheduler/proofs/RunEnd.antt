@@ -1,39 +1,34 @@
 -- What a run over a store has at any moment, and at its end.
-use Rattle.std.proofs.Common.{◌≡◌, ◌≢◌, ◌⊎◌, inl, inr, ℕ, zero, suc, ◌<◌, ◌≤◌, Bool, true, false, if◌then◌else◌, List, [], ◌∷◌, ◌++◌, map, length, slice_get, Contains, refl, ap, sym, ◌∙◌, subst, Option, Some, None, arith}
+use Rattle.std.proofs.Common.{◌≡◌, ◌≢◌, inl, inr, ℕ, zero, suc, ◌<◌, ◌≤◌, Bool, true, false, if◌then◌else◌, List, [], ◌∷◌, map, length, slice_get, Contains, refl, ap, sym, ◌∙◌, subst, Option, Some, arith}
 use Rattle.std.specs.Prelude.{All, IsSome, IfOk, OnOk, Result, Ok, Err, slice_index_or}
 use Rattle.std.specs.List.{AllByRecursion, AllZip}
 use Rattle.std.proofs.lemmas.Slice.Eq.{bytes_eq-Decides}
-use Rattle.std.proofs.lemmas.List.Elements.{All-nil, All-cons, All-head, All-tail, All-append, All-weaker, All-contains, All-contains_itself}
+use Rattle.std.proofs.lemmas.List.Elements.{All-nil, All-cons, All-head, All-tail, All-weaker, All-contains, All-contains_itself}
 use Rattle.scan_model.specs.declared.Outcome.{Outcome}
 use Rattle.scan_model.specs.declared.command.Settings.{Settings}
 use Rattle.scan_model.specs.declared.command.Job.{Job}
 use Rattle.scan_model.specs.declared.unit_end.UnitEnd.{UnitEnd}
 use Rattle.scan_model.specs.declared.unit_end.UnitEnd.TheVariants as Ends
-use Rattle.scan_model.specs.Files.{FileMap, Content}
+use Rattle.scan_model.specs.Files.{Content}
 use Rattle.scan_model.specs.TokenTests.{same}
-use Rattle.scan_model.specs.Answer.{Known, answer, looked}
-use Rattle.unit_laws.specs.Growth.{Extends}
 use Rattle.cache_machine.specs.Rows.{map_of}
 use Rattle.cache_machine.specs.Machine.{Machine, Worker, Holding, Spent, Over, worker_at}
 use Rattle.cache_machine.specs.JobLooks.{answer_by_job}
 use Rattle.cache_machine.proofs.Sound.{IsSound}
 use Rattle.cache_machine.proofs.Reached.{over_ends}
 use Rattle.shard_cache.specs.declared.kept_row.KeptRow.{KeptRow}
-use Rattle.shard_cache.specs.Rows.{ShardView, all_rows, all_asked, all_origins, paths_of, row_content, IsRow, IsStore, change_at, asked_also, kept_also, shard_number}
-use Rattle.shard_cache.specs.StoreMap.{file_map, HaveRows, IsOneMap, IsUntouched}
-use Rattle.shard_cache.specs.StoreRun.{ask_all, add_all, IsExtended}
-use Rattle.shard_cache.proofs.RowLemmas.{All-parts}
+use Rattle.shard_cache.specs.Rows.{ShardView, all_rows, paths_of, row_content, IsRow, LacksPath}
+use Rattle.shard_cache.specs.StoreMap.{file_map, HaveRows, IsOneMap}
 use Rattle.shard_cache.proofs.MapLemmas.{contains_map}
-use Rattle.shard_cache.proofs.StoreLemmas.{all_rows-asked, All-kept}
-use Rattle.shard_cache.proofs.StoreRunLemmas.{IsExtended-IsOneMap, IsExtended-HaveRows}
-use Rattle.shard_cache.specs.Ends.{IsEnd, AreEnds, IsLookedAt}
-use Rattle.scheduler.specs.Moments.{IsShort, HaveRead}
+use Rattle.shard_cache.specs.Ends.{IsEnd, AreEnds}
+use Rattle.scheduler.specs.Moments.{HaveRead}
 use Rattle.scheduler.specs.Moving.{Moment}
 use Rattle.scheduler.specs.Order.{IsInOrder, HaveMemory}
 use Rattle.scheduler.proofs.Following.{followed}
 use Rattle.scheduler.proofs.LookLemmas.{get_contains}
 use Rattle.scheduler.proofs.StoreSteps.{end_stays}
-use Rattle.scheduler.proofs.Running.{IsTaken, IsHeld, IsRunning, files_of}
+use Rattle.scheduler.proofs.StoreGrowth.{extended_length, extended_rows, extended_one_map, extended_have_rows}
+use Rattle.scheduler.proofs.Running.{IsTaken, IsRunning, files_of}
 use Rattle.scheduler.proofs.Scheduled.{IsScheduled}
 
 -- ## Results
@@ -85,40 +80,6 @@ none_holds (x ∷ ws) all (suc w) = none_holds ws all.1 w
 -- ## Stores
 
 module _ {S O G : Type 0} where
-  -- what holds of the rows that are added holds of all rows
-  rows_added : (P : KeptRow S O G → Type 0) (rows : List (KeptRow S O G)) (ss : List (ShardView S O G)) → All P rows → All P (all_rows ss) → All P (all_rows (add_all rows ss))
-  rows_added P [] ss h k = k
-  rows_added P (row ∷ rows) ss h k =
-      rows_added P rows (change_at (kept_also row) (shard_number row.path) ss) (All-tail P row rows h) (All-kept P row (shard_number row.path) ss (All-head P row rows h) k)
-
-  rows_asked : (asks : List (List ℕ)) (ss : List (ShardView S O G)) → all_rows (ask_all asks ss) ≡ all_rows ss
-  rows_asked [] ss = refl
-  rows_asked (path ∷ asks) ss = rows_asked asks (change_at (asked_also path) (shard_number path) ss) ∙ all_rows-asked path (shard_number path) ss
-
-  -- what holds of the paths that are asked holds of all that were asked
-  one_asked : (P : List ℕ → Type 0) (path : List ℕ) (k : ℕ) (ss : List (ShardView S O G)) → P path → All P (all_asked ss) → All P (all_asked (change_at (asked_also path) k ss))
-  one_asked P path k [] holds h = h
-  one_asked P path zero (s ∷ ss) holds h =
-      let parts = All-parts P s.asked (all_asked ss) h in
-      All-append P (s.asked ++ path ∷ []) (all_asked ss) (All-append P s.asked (path ∷ []) parts.0 (All-cons P path [] holds (All-nil P))) parts.1
-  one_asked P path (suc k) (s ∷ ss) holds h =
-      let parts = All-parts P s.asked (all_asked ss) h in
-      All-append P s.asked (all_asked (change_at (asked_also path) k ss)) parts.0 (one_asked P path k ss holds parts.1)
-
-  all_asked_all : (P : List ℕ → Type 0) (asks : List (List ℕ)) (ss : List (ShardView S O G)) → All P asks → All P (all_asked ss) → All P (all_asked (ask_all asks ss))
-  all_asked_all P [] ss h k = k
-  all_asked_all P (path ∷ asks) ss h k =
-      all_asked_all P asks (change_at (asked_also path) (shard_number path) ss) (All-tail P path asks h) (one_asked P path (shard_number path) ss (All-head P path asks h) k)
-
-  same_asked : (row : KeptRow S O G) (k : ℕ) (ss : List (ShardView S O G)) → all_asked (change_at (kept_also row) k ss) ≡ all_asked ss
-  same_asked row k [] = refl
-  same_asked row zero (s ∷ ss) = refl
-  same_asked row (suc k) (s ∷ ss) = ap (λ z. s.asked ++ z) (same_asked row k ss)
-
-  asked_added : (rows : List (KeptRow S O G)) (ss : List (ShardView S O G)) → all_asked (add_all rows ss) ≡ all_asked ss
-  asked_added [] ss = refl
-  asked_added (row ∷ rows) ss = asked_added rows (change_at (kept_also row) (shard_number row.path) ss) ∙ same_asked row (shard_number row.path) ss
-
   module _ (outcome : G → Outcome) (bytes : G → List ℕ) (Q : List ℕ → Type 0) where
     found_if : (row : KeptRow S O G) (path : List ℕ) (later : Option (Content (List ℕ))) (content : Content (List ℕ)) → Q row.path → (later ≡ Some content → Q path) → (b : Bool) → same row.path path ≡ b →
         (if b then Some (row_content outcome bytes row) else later) ≡ Some content → Q path
@@ -146,43 +107,44 @@ module _ {S O G : Type 0} (given_path : G → List ℕ) (given_origin : G → �
   abbrev Run : List (ShardView S O G) → Moment S O G → Type 0
   Run old r = IsRunning given_path given_origin outcome bytes jobs settings old r
 
-  -- nothing is looked at where nothing was asked
-  pub untouched_looks : (old : List (ShardView S O G)) → IsUntouched old → All (λ path. IsLookedAt (file_map outcome bytes (all_rows old)) settings jobs path) (all_asked old)
-  untouched_looks old untouched = subst (λ z. All (λ path. IsLookedAt (file_map outcome bytes (all_rows old)) settings jobs path) z) (sym untouched.nothing_asked) (All-nil _)
-
-  pub run_one_map : (old : List (ShardView S O G)) (r : Moment S O G) → length old ≡ 16 → IsUntouched old → Run old r → IsOneMap given_path given_origin r.store
-  run_one_map old r sixteen untouched h = IsExtended-IsOneMap given_path given_origin (λ row. IsRow given_path outcome bytes row) old r.store sixteen untouched h.valid h.extended
-
-  pub run_looks : (old : List (ShardView S O G)) (r : Moment S O G) → IsUntouched old → Run old r → All (λ path. IsLookedAt (file_map outcome bytes (all_rows r.store)) settings jobs path) (all_asked r.store)
-  run_looks old r untouched h =
-      let P : List ℕ → Type 0 = λ path. IsLookedAt (file_map outcome bytes (all_rows r.store)) settings jobs path in
-      let before : All P (all_asked old) = subst (λ z. All P z) (sym untouched.nothing_asked) (All-nil P) in
-      subst (λ z. All P z) (sym (ap all_asked h.extended.is ∙ asked_added h.extended.rows (ask_all h.extended.asks old))) (all_asked_all P h.extended.asks old h.looks before)
+  -- where each path that was asked before had its row, the rows of one map stay one map
+  pub run_one_map : (old : List (ShardView S O G)) (r : Moment S O G) → Run old r → HaveRows old → IsOneMap given_path given_origin old → IsOneMap given_path given_origin r.store
+  run_one_map old r h have one = elim h.valid [
+    | inl same ↦ subst (λ z. IsOneMap given_path given_origin z) (sym same) one
+    | inr valid ↦ extended_one_map given_path given_origin (λ (row : KeptRow S O G). IsRow given_path outcome bytes row) old r.store (sym (extended_length given_path given_origin old r.store h.extended) ∙ valid.sixteen) have one valid h.extended
+  ]
 
   -- ### Where all workers are over
 
-  module _ (old : List (ShardView S O G)) (r : Moment S O G) (untouched : IsUntouched old) (h : Run old r) (over : AllByRecursion (λ worker. worker ≡ Over) r.machine.workers) where
+  module _ (old : List (ShardView S O G)) (r : Moment S O G) (h : Run old r) (over : AllByRecursion (λ worker. worker ≡ Over) r.machine.workers) where
     none_held : (w n k : ℕ) (content : Content (List ℕ)) → worker_at r.machine w ≡ Holding n k content → ⊥
     none_held w n k content e = let no : Over ≡ Holding n k content = sym (none_holds r.machine.workers over w) ∙ e in cc
 
-    done_of_taken : (path : List ℕ) → IsTaken jobs settings r.machine path → Contains (paths_of h.extended.rows) path
-    done_of_taken path (inr held) = absurd (none_held held.w held.n held.k held.content held.holds)
-    done_of_taken path (inl (content, done)) =
+    done_of_taken : (path : List ℕ) → LacksPath old path → IsTaken jobs settings r.machine path → Contains (paths_of h.extended.rows) path
+    done_of_taken path lacks (inr held) = absurd (none_held held.w held.n held.k held.content held.holds)
+    done_of_taken path lacks (inl (content, done)) =
         let rows = h.extended.rows in
-        let P : KeptRow S O G → Type 0 = λ row. Contains (paths_of rows) row.path in
-        let each : All P rows = All-weaker (λ row. Contains rows row) P (λ row c. contains_map (λ (z : KeptRow S O G). z.path) rows row c) rows (All-contains_itself rows) in
-        let before : All P (all_rows (ask_all h.extended.asks old)) = subst (λ z. All P z) (sym (rows_asked h.extended.asks old ∙ untouched.no_row)) (All-nil P) in
-        let all : All P (all_rows r.store) = subst (λ z. All P (all_rows z)) (sym h.extended.is) (rows_added P rows (ask_all h.extended.asks old) each before) in
-        in_map outcome bytes (λ p. Contains (paths_of rows) p) (all_rows r.store) path content all (h.matches.map_is path ∙ done)
+        let P : List ℕ → Type 0 = λ p. LacksPath old p → Contains (paths_of rows) p in
+        let all : All (λ (row : KeptRow S O G). P row.path) (all_rows r.store) =
+        All-weaker (λ (row : KeptRow S O G). LacksPath old row.path → Contains rows row) (λ row. P row.path) (λ row has lack. contains_map (λ (z : KeptRow S O G). z.path) rows row (has lack)) (all_rows r.store)
+        (extended_rows given_path given_origin old r.store h.extended) in
+        in_map outcome bytes P (all_rows r.store) path content all (h.done path content done) lacks
 
-    pub run_have_rows : length old ≡ 16 → HaveRows r.store
-    run_have_rows sixteen =
-        IsExtended-HaveRows given_path given_origin old r.store sixteen untouched h.extended
-        (All-weaker (λ path. IsTaken jobs settings r.machine path) (λ path. Contains (paths_of h.extended.rows) path) done_of_taken h.extended.asks h.taken)
+    -- each path that was asked has its row, where each that was asked before had
+    pub run_have_rows : HaveRows old → HaveRows r.store
+    run_have_rows have =
+        let asks = h.extended.asks in
+        let each : All (λ path. Contains (paths_of h.extended.rows) path) asks =
+        All-weaker (λ path. Contains asks path) (λ path. Contains (paths_of h.extended.rows) path)
+        (λ path c. done_of_taken path (All-contains (λ p. LacksPath old p) asks path h.extended.fresh c) (All-contains (λ p. IsTaken jobs settings r.machine p) asks path h.taken c)) asks (All-contains_itself asks) in
+        elim h.valid [
+          | inl same ↦ subst (λ z. HaveRows z) (sym same) have
+          | inr valid ↦ extended_have_rows given_path given_origin old r.store (sym (extended_length given_path given_origin old r.store h.extended) ∙ valid.sixteen) have h.extended each
+        ]
 
     run_read : HaveRead jobs settings (files_of given_path given_origin outcome bytes jobs settings r.store) r.machine
     run_read = record {
-      done = λ path content e. h.matches.map_is path ∙ e;
+      done = h.done;
       held = λ w n k content path e at. absurd (none_held w n k content e);
     }
 
@@ -193,19 +155,18 @@ module _ {S O G : Type 0} (given_path : G → List ℕ) (given_origin : G → �
       let same_length : length jobs ≡ length ends = sym sound.jobs_ends ∙ (ap length (sym is) ∙ length_some ends) in
       zip_by (IsEnd files settings) jobs ends same_length (λ n job end at here.
       let recorded = sound.ends n end (subst (λ z. slice_get z n ≡ Some (Some end)) is (get_some ends n end here)) in
-      let extends : Extends (List ℕ) (map_of r.machine.rows) files = λ path content e. h.matches.map_is path ∙ e in
-      end_stays (map_of r.machine.rows) files extends settings job end (elim recorded [
+      end_stays (map_of r.machine.rows) files h.done settings job end (elim recorded [
         | inl lost ↦ inr lost
         | inr known ↦ inl (ap (λ z. answer_by_job settings (map_of r.machine.rows) z) (sym at) ∙ known)
       ]))
 
   -- the rows stand in order, where memory wasn't wanting
-  pub run_order : (workers number x : ℕ) (old : List (ShardView S O G)) (r : Moment S O G) → IsUntouched old → AllByRecursion (λ worker. worker ≡ Over) r.machine.workers →
+  pub run_order : (workers number x : ℕ) (old : List (ShardView S O G)) (r : Moment S O G) → AllByRecursion (λ worker. worker ≡ Over) r.machine.workers →
       IsScheduled given_path given_origin outcome bytes jobs settings workers number old x r → (ends : List UnitEnd) → map Some ends ≡ r.machine.ends → HaveMemory ends →
       IsInOrder (file_map outcome bytes (all_rows r.store)) jobs settings workers number old r.store
-  run_order workers number x old r untouched over h ends is memory =
+  run_order workers number x old r over h ends is memory =
       let extended = h.running.extended in
-      elim (followed jobs settings workers number r.machine x (paths_of extended.rows) (file_map outcome bytes (all_rows r.store)) h.following (run_read old r untouched h.running over) over) [
+      elim (followed jobs settings workers number r.machine x h.published (file_map outcome bytes (all_rows r.store)) h.following (run_read old r h.running over) over) [
         | inl short ↦ absurd (elim short.1 [
           | inl ended ↦ (
               let there : slice_get ends short.0 ≡ Some Ends.NoMemory = some_get ends short.0 Ends.NoMemory (subst (λ z. slice_get z short.0 ≡ Some (Some Ends.NoMemory)) (sym is) ended) in
@@ -214,11 +175,11 @@ module _ {S O G : Type 0} (given_path : G → List ℕ) (given_origin : G → �
           | inr spent ↦ (let no : Over ≡ Spent short.0 = sym (none_holds r.machine.workers over spent.0) ∙ spent.1 in cc)
         ])
         | inr run ↦ record {
-          last = record { machine = r.machine; number = x; published = paths_of extended.rows };
+          last = record { machine = r.machine; number = x; published = h.published };
           run = run;
           asks = extended.asks;
           rows = extended.rows;
           is = extended.is;
-          in_order = refl;
+          in_order = h.in_order;
         }
       ]

@@ -1,7 +1,9 @@
 -- What an ask and a row make of the file map, and what larger maps keep.
-use Rattle.std.proofs.Common.{◌≡◌, ◌≢◌, ◌<◌, ◌⊎◌, inl, inr, ℕ, Bool, true, false, if◌then◌else◌, List, [], ◌∷◌, ◌++◌, length, slice_get, Contains, refl, ap, sym, ◌∙◌, subst, ⊎_elim, Option, Some, None}
-use Rattle.std.specs.Prelude.{All}
-use Rattle.std.proofs.lemmas.List.Elements.{All-head, All-tail, Contains-append_left}
+use Rattle.std.proofs.Common.{◌≡◌, ◌≢◌, ◌<◌, ◌⊎◌, inl, inr, ℕ, Bool, true, false, if◌then◌else◌, List, [], ◌∷◌, ◌++◌, length, Contains, refl, ap, sym, ◌∙◌, subst, ⊎_elim, Option, Some, None}
+use Rattle.std.specs.Prelude.{All, ◌||◌}
+use Rattle.std.specs.List.{list_any}
+use Rattle.std.proofs.lemmas.List.Folds.{list_any_none}
+use Rattle.std.proofs.lemmas.List.Elements.{All-head, All-tail, All-weaker, Contains-append_left}
 use Rattle.std.proofs.lemmas.Slice.Eq.{bytes_eq-Decides}
 use Rattle.scan_model.specs.declared.Outcome.{Outcome}
 use Rattle.scan_model.specs.declared.command.Settings.{Settings}
@@ -11,16 +13,25 @@ use Rattle.scan_model.specs.Lines.{lines}
 use Rattle.scan_model.specs.Files.{FileMap, Content}
 use Rattle.scan_model.specs.TokenTests.{same}
 use Rattle.scan_model.specs.Answer.{answer, looked}
-use Rattle.unit_laws.specs.Growth.{Extends, Begins}
+use Rattle.unit_laws.specs.Growth.{Extends}
 use Rattle.unit_laws.proofs.GrowingAnswers.{answer_stays, looked_grows, begins_longer}
 use Rattle.shard_cache.specs.declared.kept_row.KeptRow.{KeptRow}
 use Rattle.shard_cache.specs.Rows.{ShardView, all_rows, row_content, change_at, kept_also, LacksPath}
 use Rattle.shard_cache.specs.StoreMap.{file_map}
 use Rattle.shard_cache.proofs.RowLemmas.{All-parts}
 use Rattle.shard_cache.proofs.Inserting.{flat_map-change_at}
+use Rattle.shard_cache.proofs.MapLemmas.{file_map-none}
 use Rattle.shard_cache.specs.Ends.{IsEnd, IsLookedAt}
+use Rattle.scheduler.specs.Order.{has_row}
 
 -- ## A row more
+
+pub same_or_other : (xs ys : List ℕ) → (xs ≡ ys) ⊎ (xs ≢ ys)
+same_or_other xs ys = by_test xs ys (same xs ys) refl
+  where
+    by_test : (xs ys : List ℕ) (b : Bool) → same xs ys ≡ b → (xs ≡ ys) ⊎ (xs ≢ ys)
+    by_test xs ys true e = inl ((bytes_eq-Decides xs ys).0 e)
+    by_test xs ys false e = inr (λ is. let t : same xs ys ≡ true = (bytes_eq-Decides xs ys).1 is in cc)
 
 different : (xs ys : List ℕ) → xs ≢ ys → (b : Bool) → same xs ys ≡ b → b ≡ false
 different xs ys differ true e = absurd (differ ((bytes_eq-Decides xs ys).0 e))
@@ -55,6 +66,37 @@ module _ {S O G : Type 0} (outcome : G → Outcome) (bytes : G → List ℕ) whe
         ap (λ z. file_map outcome bytes z path) added.now
         ∙ others_keep added.before added.after row path (different row.path path differ (same row.path path) refl)
         ∙ ap (λ z. file_map outcome bytes z path) (sym added.was)
+
+    -- so the map grows
+    pub kept_grows : LacksPath ss row.path → Extends (List ℕ) (file_map outcome bytes (all_rows ss)) (file_map outcome bytes (all_rows (change_at (kept_also row) k ss)))
+    kept_grows lacks path content has = elim (same_or_other row.path path) [
+      | inl here ↦ (
+          let none : file_map outcome bytes (all_rows ss) row.path ≡ None = file_map-none outcome bytes row.path (all_rows ss) lacks in
+          let some : file_map outcome bytes (all_rows ss) row.path ≡ Some content = subst (λ z. file_map outcome bytes (all_rows ss) z ≡ Some content) (sym here) has in
+          cc
+          )
+      | inr other ↦ kept_others path other ∙ has
+    ]
+
+-- ## Whether a path has a row
+
+pub has_no_row : {S O G : Type 0} (store : List (ShardView S O G)) (path : List ℕ) → LacksPath store path → has_row store path ≡ false
+has_no_row {S} {O} {G} store path lacks =
+    list_any_none (λ (row : KeptRow S O G). same row.path path) (all_rows store)
+    (All-weaker (λ (row : KeptRow S O G). row.path ≢ path) (λ (row : KeptRow S O G). same row.path path ≡ false) (λ row differ. different row.path path differ (same row.path path) refl) (all_rows store) lacks)
+
+module _ {S O G : Type 0} (outcome : G → Outcome) (bytes : G → List ℕ) where
+  row_if : (row : KeptRow S O G) (later : Option (Content (List ℕ))) (any : Bool) (content : Content (List ℕ)) → (later ≡ Some content → any ≡ true) → (b : Bool) → (if b then Some (row_content outcome bytes row) else later) ≡ Some content → (b || any) ≡ true
+  row_if row later any content each true h = refl
+  row_if row later any content each false h = each h
+
+  row_in : (rows : List (KeptRow S O G)) (path : List ℕ) (content : Content (List ℕ)) → file_map outcome bytes rows path ≡ Some content → list_any (λ row. same row.path path) rows ≡ true
+  row_in [] path content h = cc
+  row_in (row ∷ rows) path content h = row_if row (file_map outcome bytes rows path) (list_any (λ (z : KeptRow S O G). same z.path path) rows) content (row_in rows path content) (same row.path path) h
+
+  -- a path of the map has a row
+  pub has_its_row : (store : List (ShardView S O G)) (path : List ℕ) (content : Content (List ℕ)) → file_map outcome bytes (all_rows store) path ≡ Some content → has_row store path ≡ true
+  has_its_row store path content h = row_in (all_rows store) path content h
 
 -- ## Larger maps
 

@@ -1,9 +1,8 @@
 -- One step of one worker: what it leaves of the others, and what it makes of the rows.
-use Rattle.std.proofs.Common.{◌≡◌, ◌≢◌, ◌⊎◌, inl, inr, ℕ, zero, suc, ◌+◌, ◌<◌, ◌≤◌, Bool, true, false, ◌==◌, nat_lt, if◌then◌else◌, List, [], ◌∷◌, ◌++◌, map, length, slice_get, refl, ap, sym, ◌∙◌, subst, Option, Some, None, arith}
+use Rattle.std.proofs.Common.{◌≡◌, ◌≢◌, ◌⊎◌, inl, inr, ℕ, zero, suc, ◌+◌, ◌<◌, Bool, true, false, ◌==◌, nat_lt, if◌then◌else◌, List, [], ◌∷◌, ◌++◌, map, length, slice_get, refl, ap, sym, ◌∙◌, subst, Option, Some, None, arith}
 use Rattle.std.specs.Prelude.{⊤, slice_index_or, slice_set}
 use Rattle.std.specs.Option.{option_map}
 use Rattle.std.proofs.lemmas.Bool.{cases_eq, eqb-true}
-use Rattle.std.proofs.lemmas.Slice.Eq.{bytes_eq-Decides}
 use Rattle.scan_model.specs.declared.command.Settings.{Settings}
 use Rattle.scan_model.specs.declared.command.Job.{Job}
 use Rattle.scan_model.specs.declared.unit_end.UnitEnd.{UnitEnd}
@@ -13,11 +12,10 @@ use Rattle.scan_model.specs.TokenTests.{same}
 use Rattle.cache_machine.specs.Rows.{Held, Claimed, Done, Row, held_at, done_of, map_of, published_held, published}
 use Rattle.cache_machine.specs.Machine.{Machine, Worker, Idle, At, Claiming, Holding, Spent, Over, worker_at, with_worker}
 use Rattle.cache_machine.specs.JobLooks.{path_at, answer_at, end_in}
-use Rattle.cache_machine.specs.Steps.{Event, Draw, Look, Read, Publish, End, drawn, draw, claim, look_held, look_path, look, read, publish_as, publish, record_end, end_path, end, act}
+use Rattle.cache_machine.specs.Steps.{Draw, Look, Read, Publish, End, drawn, draw, claim, look_held, look_path, look, read, publish_as, publish, record_end, end_path, end, act}
 use Rattle.cache_machine.specs.Spending.{draw_spent, look_spent, publish_spent, spend}
 use Rattle.cache_machine.specs.RowGrowth.{RowsGrow}
-use Rattle.cache_machine.specs.WorkerRows.{IsClaimant}
-use Rattle.cache_machine.specs.Numbers.{has_number, one_if, ended, drawn_once}
+use Rattle.cache_machine.specs.Numbers.{has_number, ended}
 use Rattle.cache_machine.proofs.Sound.{IsSound}
 use Rattle.cache_machine.proofs.NumberLemmas.{if_true, drawn_within, drawn_at_most}
 use Rattle.cache_machine.proofs.RowLemmas.{grows_refl, grows_append, grows_published, held_published, extends}

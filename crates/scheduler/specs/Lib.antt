@@ -3,3 +3,4 @@ pub mod Schedule
 pub mod Moments
 pub mod Moving
 pub mod Order
+pub mod Asks

@@ -1,11 +1,11 @@
 -- Moments of a run on the schedule, as far as the machine goes.
-use Rattle.std.specs.Prelude.{◌≡◌, ◌⊎◌, ⊤, ℕ, List, slice_get, Some}
+use Rattle.std.specs.Prelude.{◌≡◌, ◌⊎◌, ℕ, List, slice_get, Some}
 use Rattle.scan_model.specs.declared.command.Settings.{Settings}
 use Rattle.scan_model.specs.declared.command.Job.{Job}
 use Rattle.scan_model.specs.declared.unit_end.UnitEnd.TheVariants as Ends
 use Rattle.scan_model.specs.Files.{FileMap, Content}
 use Rattle.cache_machine.specs.Rows.{map_of}
-use Rattle.cache_machine.specs.Machine.{Machine, Worker, Holding, Spent, worker_at}
+use Rattle.cache_machine.specs.Machine.{Machine, Holding, Spent, worker_at}
 use Rattle.cache_machine.specs.JobLooks.{path_at}
 use Rattle.cache_machine.specs.Steps.{Event, act}
 use Rattle.cache_machine.specs.Spending.{spend}

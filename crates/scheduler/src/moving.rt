@@ -1,13 +1,16 @@
 //! One step of one worker, over the store.
 
-ghost use Rattle.std.specs.Prelude.{◌≡◌, ◌<◌, true, OnOk, OnErr, IfOk, length};
+ghost use Rattle.std.specs.Prelude.{◌≡◌, ◌⊎◌, ◌<◌, true, OnOk, OnErr, IfOk, length, slice_set};
+ghost use Rattle.cache_machine.specs.Steps.{Read, act};
+ghost use Rattle.cache_machine.specs.Wants.{Read_wanted};
 ghost use Rattle.shard_cache.specs.Rows.{change_at, asked_also, shard_number, row_content, IsRow, IsStore, LacksPath};
 ghost use Rattle.shard_cache.specs.StoreRun.{IsGivenRow};
 ghost use Rattle.scan_core.specs.Events.{event_of, core_wants, IsReachedCore, IsSameScan, IsWanted};
 ghost use Rattle.scheduler.specs.Schedule.{can_move};
 ghost use Rattle.scheduler.specs.Moments.{HasMoved};
-ghost use Rattle.scheduler.specs.Moving.{Matches, HasStepped, WantsToRead, WantsToPublish, HasRead, HasPublished};
+ghost use Rattle.scheduler.specs.Moving.{PlacesFit, HasStepped, WantsToPublish, HasFound, HasRead, HasPassed, HasPublished};
 
+use crate::known::known;
 use crate::reading::reading;
 use crate::told::Told;
 use file_source::Source;
@@ -30,7 +33,7 @@ pub(crate) fn step<S: Source>(
     requires places { length held.old.items ≡ length core.old.machine.workers }
     requires mover { can_move (core_wants core.old worker) ≡ true }
     requires reached { IsReachedCore core.old }
-    requires matches { Matches S.given_path S.given_outcome S.given_bytes core.old.jobs core.old.settings core.old.machine held.old.items store.old }
+    requires fit { PlacesFit S.given_path S.given_outcome S.given_bytes core.old.jobs core.old.settings core.old.machine held.old.items store.old }
     ensures stepped { OnOk result (HasStepped S.given_path S.given_origin S.given_outcome S.given_bytes core.old.jobs core.old.settings worker
         (record { machine = core.old.machine; held = held.old.items; store = store.old })
         (record { machine = core.new.machine; held = held.new.items; store = store.new })) }
@@ -61,7 +64,8 @@ fn advance(alloc: Global, core: &mut Core<'_, Told>, event: Event<Told>)
     let _ = core.step(alloc, event);
 }
 
-// Asks for the path that the worker claimed, reads it, and keeps its row in the worker's place.
+// Tells the core of the path that the worker claimed: what the store's row of it stands for or, where the store has none,
+// what its read gives.
 fn read<S: Source>(
     alloc: Global,
     core: &mut Core<'_, Told>,
@@ -71,8 +75,11 @@ fn read<S: Source>(
 ) -> Result<(), NoMemory>
     requires inside { worker < length core.old.machine.workers }
     requires places { worker < length held.old.items }
-    requires wanted { WantsToRead core.old.jobs core.old.settings core.old.machine worker store.old }
-    ensures read { OnOk result (HasRead S.given_path S.given_origin S.given_outcome S.given_bytes core.old.jobs core.old.settings worker
+    requires wanted { core_wants core.old worker ≡ Read_wanted }
+    ensures read { OnOk result (HasFound S.given_path S.given_outcome S.given_bytes core.old.jobs core.old.settings worker
+        (record { machine = core.old.machine; held = held.old.items; store = store.old })
+        (record { machine = core.new.machine; held = held.new.items; store = store.new })
+        ⊎ HasRead S.given_path S.given_origin S.given_outcome S.given_bytes core.old.jobs core.old.settings worker
         (record { machine = core.old.machine; held = held.old.items; store = store.old })
         (record { machine = core.new.machine; held = held.new.items; store = store.new })) }
     ensures left { OnOk result (core.new.left < core.old.left) }
@@ -81,9 +88,13 @@ fn read<S: Source>(
     ensures places { OnOk result (length held.new.items ≡ length held.old.items) }
     ensures err { OnErr result (store.new ≡ store.old) }
 {
-    let (row, told) = read_path(alloc, core.wanted(worker), store)?;
-    let _ = mem::replace(&mut held[worker as usize], Some(row));
-    advance(alloc, core, Event::Read(worker, told));
+    let path = core.wanted(worker);
+    if let Some(told) = known(path, store)? {
+        hold(alloc, core, worker, held, None, told);
+        return Ok(());
+    }
+    let (row, told) = read_path(alloc, path, store)?;
+    hold(alloc, core, worker, held, Some(row), told);
     Ok(())
 }
 
@@ -116,7 +127,29 @@ fn read_path<S: Source>(
     ))
 }
 
-// Adds the row in the worker's place to the store.
+// Tells the core of the path that the worker claimed, and keeps its row, if it is to be added, in the worker's place.
+fn hold<S: Source>(
+    alloc: Global,
+    core: &mut Core<'_, Told>,
+    worker: u32,
+    held: &mut Vec<Option<KeptRow<S>>>,
+    row: Option<KeptRow<S>>,
+    told: Told,
+)
+    requires places { worker < length held.old.items }
+    requires wanted { core_wants core.old worker ≡ Read_wanted }
+    ensures machine { core.new.machine ≡ act core.old.jobs core.old.settings core.old.machine (Read worker told) }
+    ensures left { core.new.left < core.old.left }
+    ensures scan { IsSameScan core.old core.new }
+    ensures reached { IsReachedCore core.new }
+    ensures held { held.new.items ≡ slice_set held.old.items worker row }
+    ensures places { length held.new.items ≡ length held.old.items }
+{
+    let _ = mem::replace(&mut held[worker as usize], row);
+    advance(alloc, core, Event::Read(worker, told));
+}
+
+// Adds the row in the worker's place to the store, if there is one.
 fn publish<S: Source>(
     alloc: Global,
     core: &mut Core<'_, Told>,
@@ -126,7 +159,10 @@ fn publish<S: Source>(
 ) -> Result<(), NoMemory>
     requires places { worker < length held.old.items }
     requires wanted { WantsToPublish S.given_path S.given_outcome S.given_bytes core.old.jobs core.old.settings core.old.machine worker held.old.items store.old }
-    ensures published { OnOk result (HasPublished S.given_path S.given_outcome S.given_bytes core.old.jobs core.old.settings worker
+    ensures published { OnOk result (HasPassed core.old.jobs core.old.settings worker
+        (record { machine = core.old.machine; held = held.old.items; store = store.old })
+        (record { machine = core.new.machine; held = held.new.items; store = store.new })
+        ⊎ HasPublished S.given_path S.given_outcome S.given_bytes core.old.jobs core.old.settings worker
         (record { machine = core.old.machine; held = held.old.items; store = store.old })
         (record { machine = core.new.machine; held = held.new.items; store = store.new })) }
     ensures left { OnOk result (core.new.left < core.old.left) }
@@ -136,7 +172,8 @@ fn publish<S: Source>(
     ensures err { OnErr result (store.new ≡ store.old) }
 {
     let Some(row) = mem::replace(&mut held[worker as usize], None) else {
-        unreachable!()
+        advance(alloc, core, Event::Publish(worker));
+        return Ok(());
     };
     match store.add(row) {
         Ok(()) => advance(alloc, core, Event::Publish(worker)),

@@ -1,4 +1,4 @@
-use Rattle.std.proofs.Common.{◌≡◌, ◌∷◌, [], ◌++◌, None, subst}
+use Rattle.std.proofs.Common.{◌≡◌, ◌∷◌, [], ◌++◌, subst}
 use Rattle.scheduler.proofs.EndLists.{none_left}
 use Rattle.scheduler.proofs.ends.gathered.Goals as goal
 
