@@ -1,0 +1,3 @@
+pub mod LookedEffects
+pub mod LookedRuns
+pub mod TextAnswers
