@@ -7,8 +7,8 @@ use path_search::normal;
 use scan_model::{Bytes, Items, NoMemory};
 use std::alloc::Global;
 
-// The headers, and then the units.
-pub(crate) fn files(alloc: Global, n: u32) -> Result<Items<MadeFile>, NoMemory>
+/// The files of the made tree of `n` units, up to 4,096: 64 headers, and then the units.
+pub fn made_files(alloc: Global, n: u32) -> Result<Items<MadeFile>, NoMemory>
     requires units { n ≤ 4096 }
     ensures { IfOk result (λ files. files ≡ made_files n) }
 {

@@ -7,6 +7,7 @@ mod database;
 mod files;
 mod tree;
 
+pub use files::made_files;
 pub use tree::{MadeTree, make};
 
 #[cfg(test)]

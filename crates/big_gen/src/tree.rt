@@ -2,7 +2,7 @@ ghost use Rattle.std.specs.Prelude.{◌≡◌, ◌≤◌, IfOk};
 ghost use Rattle.big_gen.specs.MadeTexts.{made_files, made_database};
 
 use crate::database::database;
-use crate::files::files;
+use crate::files::made_files;
 use file_source::MadeFile;
 use scan_model::{Bytes, Items, NoMemory};
 use std::alloc::Global;
@@ -23,7 +23,7 @@ pub fn make(alloc: Global, n: u32) -> Result<MadeTree, NoMemory>
     ensures database { IfOk result (λ tree. tree.database ≡ made_database n) }
 {
     Ok(MadeTree {
-        files: files(alloc, n)?,
+        files: made_files(alloc, n)?,
         database: database(alloc, n)?,
     })
 }

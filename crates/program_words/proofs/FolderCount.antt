@@ -14,11 +14,12 @@ use Rattle.clap.specs.Simple.{argument_words, built, names_of}
 use Rattle.clap.specs.Walk.{action_of, is_empty}
 use Rattle.scan_model.specs.declared.NoMemory.{NoMemory}
 use Rattle.scan_model.specs.Limits.{file_limit}
+use Rattle.program_words.specs.declared.reading.Input.{Input}
 use Rattle.program_words.specs.declared.reading.Usage.{Usage}
 use Rattle.program_words.specs.declared.reading.Words.{Words}
 use Rattle.program_words.specs.Options.{app}
 use Rattle.scan_model.specs.Fits.{SettingsFit}
-use Rattle.program_words.specs.Words.{by_rows, folders_in, folders_of, is_colon, is_known_format, is_named, usage, value, words_of, words_with}
+use Rattle.program_words.specs.Words.{by_rows, folders_in, folders_of, input_of, is_colon, is_known_format, is_named, usage, value, words_of, words_with}
 use Rattle.program_words.proofs.ShortRows.{AreShort, IsNoCount, IsShort, IsShortRule, rows_short, value_short}
 
 part_count : (b : Bool) (part : List ℕ) (rest : List (List ℕ)) (m : ℕ) → b ≡ is_named part → length (filter is_named rest) ≤ m → length (if b then part ∷ filter is_named rest else filter is_named rest) ≤ length part + m
@@ -66,7 +67,10 @@ options_short =
             record { missing = All-nil IsShort; defaults = All-nil IsShort; no_count = tt },
             (
               record { missing = All-nil IsShort; defaults = All-nil IsShort; no_count = tt },
-              (record { missing = All-nil IsShort; defaults = All-nil IsShort; no_count = tt }, tt),
+              (
+                record { missing = All-nil IsShort; defaults = All-nil IsShort; no_count = tt },
+                (record { missing = All-nil IsShort; defaults = All-nil IsShort; no_count = tt }, tt),
+              ),
             ),
           ),
         ),
@@ -76,14 +80,14 @@ options_short =
 matches_short : (words : List (List ℕ)) → All IsShort words → AreShort (matches_of app words)
 matches_short words all = rows_short (built app).top.rules (names_of (built app)) (argument_words app words) options_short (All-drop IsShort 1 words all)
 
-named : (rows : List Row) → AreShort rows → (known : Bool) (database : Option (List ℕ)) → IfOk (if known then option_map_or (λ path. Ok (words_with rows path)) database (Err usage) else Err usage) (λ words. SettingsFit words.settings)
-named rows short true (Some path) = folders_fit (value (codes "system-dirs") rows) (value_short (codes "system-dirs") rows short)
+named : (rows : List Row) → AreShort rows → (known : Bool) (input : Option Input) → IfOk (if known then option_map_or (λ input. Ok (words_with rows input)) input (Err usage) else Err usage) (λ words. SettingsFit words.settings)
+named rows short true (Some input) = folders_fit (value (codes "system-dirs") rows) (value_short (codes "system-dirs") rows short)
 named rows short true None = tt
-named rows short false (Some path) = tt
+named rows short false (Some input) = tt
 named rows short false None = tt
 
 faultless : (rows : List Row) → AreShort rows → (fine : Bool) → IfOk (if fine then by_rows rows else Err usage) (λ words. SettingsFit words.settings)
-faultless rows short true = named rows short (is_known_format (value (codes "format") rows)) (value (codes "compilation-database") rows)
+faultless rows short true = named rows short (is_known_format (value (codes "format") rows)) (input_of (value (codes "compilation-database") rows) (value (codes "made") rows))
 faultless rows short false = tt
 
 words_fit : (words : List (List ℕ)) → All IsShort words → IfOk (words_of words) (λ words. SettingsFit words.settings)

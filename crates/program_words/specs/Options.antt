@@ -29,6 +29,10 @@ folders_rule = text_rule (codes "system-dirs")
 abbrev pub schedule_rule : Rule
 schedule_rule = record (text_rule (codes "schedule")) { parser = Some (parser.Signed (pos 0) (pos 2147483647)) }
 
+-- `--made` takes a number from 1 to 4096
+abbrev pub made_rule : Rule
+made_rule = record (text_rule (codes "made")) { parser = Some (parser.Signed (pos 1) (pos 4096)) }
+
 -- the argument is that option, of this command alone
 abbrev pub IsRule : Rule → Arg → Type 0
 IsRule rule arg = (rule_of arg ≡ rule) × (arg.global ≡ false)
@@ -38,4 +42,4 @@ abbrev pub bare_app : App
 bare_app = on_top (λ s. record s { disable_help_flag = true }) (new_app (codes "scan_deps"))
 
 abbrev pub app : App
-app = with_rule (with_rule (with_rule (with_rule (with_rule (with_rule bare_app database_rule) format_rule) workers_rule) predefines_rule) folders_rule) schedule_rule
+app = with_rule (with_rule (with_rule (with_rule (with_rule (with_rule (with_rule bare_app database_rule) format_rule) workers_rule) predefines_rule) folders_rule) schedule_rule) made_rule

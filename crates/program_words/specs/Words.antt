@@ -1,5 +1,5 @@
 -- What the program's words ask for, by what `clap` reads of them.
-use Rattle.std.specs.Prelude.{◌≡◌, ◌≤◌, ℕ, true, false, Bool, not, ◌==◌, min, max, if◌then◌else◌, List, [], ◌∷◌, ◌++◌, length, map, filter, codes, Option, Some, None, option_map, Result, Ok, Err, String, string_bytes}
+use Rattle.std.specs.Prelude.{◌≡◌, ◌≤◌, ⊤, ℕ, true, false, Bool, not, ◌==◌, min, max, if◌then◌else◌, List, [], ◌∷◌, ◌++◌, length, map, filter, codes, Option, Some, None, option_map, Result, Ok, Err, String, string_bytes}
 use Rattle.std.specs.declared.alloc.Global.{Global}
 use Rattle.std.specs.Option.{option_map_or}
 use Rattle.std.specs.List.{slice_split}
@@ -10,6 +10,8 @@ use Rattle.scan_model.specs.declared.command.Settings.{Settings}
 use Rattle.scan_model.specs.Limits.{file_limit}
 use Rattle.scan_model.specs.Paths.{normal}
 use Rattle.scan_model.specs.TokenTests.{same}
+use Rattle.program_words.specs.declared.reading.Input.{Input}
+use Rattle.program_words.specs.declared.reading.Input.TheVariants.{Database, Made}
 use Rattle.program_words.specs.declared.reading.Usage.{Usage}
 use Rattle.program_words.specs.declared.reading.Words.{Words}
 use Rattle.program_words.specs.Numbers.{number_or_zero}
@@ -28,6 +30,17 @@ workers_of text = option_map_or (λ number. max 1 (min 64 (byte_or_zero number))
 -- the number of the schedule; `clap` takes no text but of a number below 2 ^ 31
 abbrev pub schedule_of : Option (List ℕ) → ℕ
 schedule_of text = option_map_or (λ number. min 2147483647 (number_or_zero number)) text 0
+
+-- the number of units of a made tree; `clap` takes no text but of a number from 1 to 4096
+abbrev pub units_of : List ℕ → ℕ
+units_of text = max 1 (min 4096 (number_or_zero text))
+
+-- what is to be scanned: exactly one of a database and a made tree is named
+abbrev pub input_of : Option (List ℕ) → Option (List ℕ) → Option Input
+input_of (Some path) None = Some (Database (normal path))
+input_of None (Some text) = Some (Made (units_of text))
+input_of (Some path) (Some text) = None
+input_of None None = None
 
 -- the folders that stand between colons, none of them empty
 abbrev pub is_colon : ℕ → Bool
@@ -56,9 +69,9 @@ settings_of rows = record {
   program = folders_of (value (codes "system-dirs") rows);
 }
 
-abbrev pub words_with : List Row → List ℕ → Words
-words_with rows database = record {
-  database = normal database;
+abbrev pub words_with : List Row → Input → Words
+words_with rows input = record {
+  input = input;
   workers = workers_of (value (codes "j") rows);
   schedule = schedule_of (value (codes "schedule") rows);
   settings = settings_of rows;
@@ -67,11 +80,11 @@ words_with rows database = record {
 abbrev pub usage : Usage
 usage = record {}
 
--- refused where the format isn't known or no database is named
+-- refused where the format isn't known, or not exactly one of a database and a made tree is named
 abbrev pub by_rows : List Row → Result Words Usage
 by_rows rows =
     if is_known_format (value (codes "format") rows)
-    then option_map_or (λ database. Ok (words_with rows database)) (value (codes "compilation-database") rows) (Err usage)
+    then option_map_or (λ input. Ok (words_with rows input)) (input_of (value (codes "compilation-database") rows) (value (codes "made") rows)) (Err usage)
     else Err usage
 
 abbrev pub by_parse : Option ArgMatches → Result Words Usage
@@ -87,11 +100,17 @@ IsParse words (Some m) = (is_empty (fault_of app words) ≡ true) × (rows_of (f
 unfoldable pub words_of : List (List ℕ) → Result Words Usage
 words_of words = if is_empty (fault_of app words) then by_rows (matches_of app words) else Err usage
 
--- there are to be 1 to 64 workers, and the schedule's number is below 2 ^ 31
+-- a made tree has 1 to 4096 units
+abbrev pub InputFits : Input → Type 0
+InputFits (Database path) = ⊤
+InputFits (Made units) = (1 ≤ units) × (units ≤ 4096)
+
+-- there are to be 1 to 64 workers, the schedule's number is below 2 ^ 31, and a made tree isn't too large
 pub record HasRanges (words : Words) : Type 0 where
   pub some_worker : 1 ≤ words.workers
   pub few_workers : words.workers ≤ 64
   pub schedule : words.schedule ≤ 2147483647
+  pub input : InputFits words.input
 
 -- a word that is no longer than the words of a command line may be
 abbrev pub IsShortWord : String Global → Type 0

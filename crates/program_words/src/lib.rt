@@ -8,7 +8,7 @@ mod options;
 mod reading;
 
 pub use alone::is_alone;
-pub use reading::{Usage, Words, read};
+pub use reading::{Input, Usage, Words, read};
 
 #[cfg(test)]
 mod tests;

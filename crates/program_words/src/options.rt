@@ -1,6 +1,6 @@
 ghost use Rattle.std.specs.Prelude.{◌≡◌, IfOk, false};
 ghost use Rattle.clap.specs.Words.{app_of, rule_of};
-ghost use Rattle.program_words.specs.Options.{IsRule, app, database_rule, format_rule, workers_rule, predefines_rule, folders_rule, schedule_rule};
+ghost use Rattle.program_words.specs.Options.{IsRule, app, database_rule, format_rule, workers_rule, predefines_rule, folders_rule, schedule_rule, made_rule};
 
 use clap::{Arg, Command};
 use std::alloc::{AllocError, Global};
@@ -48,6 +48,14 @@ fn schedule_option<'a>(alloc: Global) -> Arg<'a>
         .value_parser(clap::value_parser!(u32).range(0..=2147483647))
 }
 
+fn made_option<'a>(alloc: Global) -> Arg<'a>
+    ensures { IsRule made_rule result }
+{
+    Arg::new(alloc, "made")
+        .long("made")
+        .value_parser(clap::value_parser!(u32).range(1..=4096))
+}
+
 /// The program's options, for `clap`. It has no help flag, no version flag and no positional.
 pub(crate) fn command<'a>(alloc: Global) -> Result<Command<'a>, AllocError>
     ensures { IfOk result (λ command. app_of command ≡ app) }
@@ -59,5 +67,6 @@ pub(crate) fn command<'a>(alloc: Global) -> Result<Command<'a>, AllocError>
         .arg(workers_option(alloc))?
         .arg(predefines_option(alloc))?
         .arg(folders_option(alloc))?
-        .arg(schedule_option(alloc))
+        .arg(schedule_option(alloc))?
+        .arg(made_option(alloc))
 }

@@ -3,7 +3,7 @@ ghost use Rattle.std.specs.List.{All, slice_split};
 ghost use Rattle.clap.specs.Words.{found_of, rows_of, first_of};
 ghost use Rattle.clap.specs.Walk.{byte_or_zero};
 ghost use Rattle.scan_model.specs.Paths.{normal};
-ghost use Rattle.program_words.specs.Words.{IsParse, texts_of, is_known_format, workers_of, is_colon, with_part, folders_in, folders_of, settings_of, words_with, by_rows, by_parse, words_of, schedule_of, HasRanges, IsShortWord};
+ghost use Rattle.program_words.specs.Words.{IsParse, texts_of, is_known_format, workers_of, units_of, input_of, is_colon, with_part, folders_in, folders_of, settings_of, words_with, by_rows, by_parse, words_of, schedule_of, HasRanges, IsShortWord};
 ghost use Rattle.program_words.specs.Numbers.{number_or_zero};
 ghost use Rattle.scan_model.specs.Fits.{SettingsFit};
 
@@ -14,15 +14,24 @@ use path_search::normal;
 use scan_model::{Items, NoMemory, PathText, Settings};
 use std::alloc::Global;
 
-/// The words are refused: they aren't those of the program's options, or name no database.
+/// The words are refused: they aren't those of the program's options, or don't name exactly one of a database and a made
+/// tree.
 #[derive(Clone, Copy, Debug, PartialEq, Eq)]
 pub struct Usage;
+
+/// What is to be scanned.
+#[derive(Drop)]
+pub enum Input {
+    /// The commands of the compilation database with this path.
+    Database(PathText),
+    /// A made tree of so many units, from 1 to 4096.
+    Made(u32),
+}
 
 /// What the program's words ask for. Paths are relative to the working folder.
 #[derive(Drop)]
 pub struct Words {
-    /// The path of the compilation database.
-    pub database: PathText,
+    pub input: Input,
     /// How many workers there are to be, from 1 to 64.
     pub workers: u32,
     /// With which number the schedule of a run on one thread begins, below 2 ^ 31.
@@ -75,7 +84,7 @@ fn workers_of(text: Option<&str>) -> u32
     }
 }
 
-fn schedule_number(text: &str) -> u32
+fn u32_of(text: &str) -> u32
     ensures { result ≡ number_or_zero text.now }
 {
     text.parse::<u32>().unwrap_or(0)
@@ -85,8 +94,30 @@ fn schedule_of(text: Option<&str>) -> u32
     ensures { result ≡ schedule_of (option_map (λ text. text.now) text.entry) }
 {
     match text {
-        Some(text) => schedule_number(text).min(2147483647),
+        Some(text) => u32_of(text).min(2147483647),
         None => 0,
+    }
+}
+
+fn units_of(text: &str) -> u32
+    ensures { result ≡ units_of text.now }
+{
+    u32_of(text).min(4096).max(1)
+}
+
+// What is to be scanned, where exactly one of a database and a made tree is named.
+fn input_of(
+    alloc: Global,
+    database: Option<&str>,
+    made: Option<&str>,
+) -> Result<Option<Input>, NoMemory>
+    ensures { IfOk result (λ input. input
+        ≡ input_of (option_map (λ text. text.now) database.entry) (option_map (λ text. text.now) made.entry)) }
+{
+    match (database, made) {
+        (Some(path), None) => Ok(Some(Input::Database(normal(alloc, path.as_bytes())?))),
+        (None, Some(text)) => Ok(Some(Input::Made(units_of(text)))),
+        _ => Ok(None),
     }
 }
 
@@ -138,11 +169,11 @@ fn settings_of(alloc: Global, matches: &ArgMatches<'_>) -> Result<Settings, NoMe
     })
 }
 
-fn words_with(alloc: Global, matches: &ArgMatches<'_>, database: &str) -> Result<Words, NoMemory>
-    ensures { IfOk result (λ words. words ≡ words_with (rows_of (found_of matches.now)) database.now) }
+fn words_with(alloc: Global, matches: &ArgMatches<'_>, input: Input) -> Result<Words, NoMemory>
+    ensures { IfOk result (λ words. words ≡ words_with (rows_of (found_of matches.now)) input) }
 {
     Ok(Words {
-        database: normal(alloc, database.as_bytes())?,
+        input,
         workers: workers_of(value(matches, "j")),
         schedule: schedule_of(value(matches, "schedule")),
         settings: settings_of(alloc, matches)?,
@@ -155,8 +186,9 @@ fn by_matches(alloc: Global, matches: &ArgMatches<'_>) -> Result<Result<Words, U
     if !is_known_format(value(matches, "format")) {
         return Ok(Err(Usage));
     }
-    match value(matches, "compilation-database") {
-        Some(database) => Ok(Ok(words_with(alloc, matches, database)?)),
+    let database = value(matches, "compilation-database");
+    match input_of(alloc, database, value(matches, "made"))? {
+        Some(input) => Ok(Ok(words_with(alloc, matches, input)?)),
         None => Ok(Err(Usage)),
     }
 }
@@ -181,10 +213,10 @@ fn read_words(alloc: Global, words: &Vec<String>) -> Result<Result<Words, Usage>
 
 /// What the words ask for. The first word is the program's name.
 ///
-/// `--compilation-database` is the database's path, `-j` the number of workers, from 1 to 64 and 4 where it isn't given,
+/// `--compilation-database` is the database's path, `--made` the number of units of a made tree, from 1 to 4096, `-j` the number of workers, from 1 to 64 and 4 where it isn't given,
 /// `--predefines` the file of the compiler's own macros, `--system-dirs` folders between colons, of which empty ones are
 /// dropped, `--schedule` a number below 2 ^ 31, and `--format` is `p1689`. `Usage` comes exactly where `clap` finds a fault in the words, the format is
-/// another one, or no database is named. `Err` is want of memory alone.
+/// another one, or not exactly one of a database and a made tree is named. `Err` is want of memory alone.
 pub fn read(alloc: Global, words: &Vec<String>) -> Result<Result<Words, Usage>, NoMemory>
     ensures reads { IfOk result (λ read. read ≡ words_of (texts_of words.now.items)) }
     ensures ranges { IfOk result (λ read. IfOk read HasRanges) }

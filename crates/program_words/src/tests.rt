@@ -1,4 +1,4 @@
-use crate::{Usage, is_alone, read};
+use crate::{Input, Usage, is_alone, read};
 use scan_model::NoMemory;
 use std::alloc::{AllocError, Global};
 use std::test::Fail;
@@ -90,14 +90,14 @@ fn some_words_ask_for_one_thread(rt: HostRuntime) -> Result<(), Fail> {
     Ok(())
 }
 
-// Words, and what they ask for: the database, the workers, the schedule unless it is 0, the predefines file and each folder; or `usage`.
+// Words, and what they ask for: the database or the size of the made tree, the workers, the schedule unless it is 0, the predefines file and each folder; or `usage`.
 #[derive(Clone, Copy)]
 struct WordsRow {
     words: &'static str,
     asked: &'static str,
 }
 
-const WORDS: [WordsRow; 24] = [
+const WORDS: [WordsRow; 29] = [
     WordsRow {
         words: "--compilation-database=/p/./db.json",
         asked: "/p/db.json 4",
@@ -194,14 +194,45 @@ const WORDS: [WordsRow; 24] = [
         words: "--compilation-databas=d",
         asked: "usage",
     },
+    WordsRow {
+        words: "--made=2 -j 1",
+        asked: "made 2 1",
+    },
+    WordsRow {
+        words: "--made +4096",
+        asked: "made 4096 4",
+    },
+    WordsRow {
+        words: "--made=0",
+        asked: "usage",
+    },
+    WordsRow {
+        words: "--made=4097",
+        asked: "usage",
+    },
+    WordsRow {
+        words: "--made=1 --compilation-database=d",
+        asked: "usage",
+    },
 ];
+
+fn shown_input(alloc: Global, input: &Input) -> Result<Vec<u8>, NoMemory> {
+    match input {
+        Input::Database(path) => Ok(Vec::from_slice(alloc, path.as_slice())?),
+        Input::Made(units) => {
+            let mut shown = Vec::from_slice(alloc, b"made ")?;
+            shown.extend_from_slice(units.to_string(alloc)?.as_bytes())?;
+            Ok(shown)
+        }
+    }
+}
 
 fn shown(alloc: Global, words: &Vec<String>) -> Result<Vec<u8>, NoMemory> {
     let words = match read(alloc, words)? {
         Ok(words) => words,
         Err(Usage) => return Ok(Vec::from_slice(alloc, b"usage")?),
     };
-    let mut shown = Vec::from_slice(alloc, words.database.as_slice())?;
+    let mut shown = shown_input(alloc, &words.input)?;
     shown.push(b' ')?;
     shown.extend_from_slice(words.workers.to_string(alloc)?.as_bytes())?;
     if words.schedule > 0 {

@@ -1,0 +1,4 @@
+pub mod JobLists
+pub mod MadeMaps
+pub mod EndsOver
+pub mod StoreEnds

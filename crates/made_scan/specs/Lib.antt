@@ -1,0 +1,2 @@
+pub mod MadeJobs
+pub mod MadeScans
