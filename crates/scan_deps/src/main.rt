@@ -1,14 +1,16 @@
 //! The program: the scanner over the system's files and streams.
 //!
-//! All that it does beside `scanner::scan_alone` is to make the real sources and sinks and to end with the status.
+//! All that it does beside the scanner's two calls is to choose one of them by the words, to make the real sources and
+//! sinks and to end with the status.
 #![tactic(auto)]
 
 ghost use Rattle.std.specs.Prelude.{◌≡◌, ◌≤◌, ◌↔◌, [], All, IfOk, IsTrue, string_len, vec_len};
 ghost use Rattle.shard_cache.specs.StoreMap.{IsUntouched};
 
 use file_source::{DiskSource, OutSink, Source};
+use program_words::is_alone;
 use scan_model::NoMemory;
-use scanner::{Outside, scan_alone};
+use scanner::{Outside, scan_alone, scan_deps};
 use shard_cache::Store;
 use std::process::ExitCode;
 use std::{env, io};
@@ -85,6 +87,10 @@ fn main(rt: HostRuntime) -> ExitCode {
     };
     let mut out = OutSink::new(rt.stdout());
     let mut err = OutSink::new(rt.stderr());
-    let ended = scan_alone(rt.alloc(), &words, outside, &mut out, &mut err);
+    let ended = if is_alone(&words) {
+        scan_alone(rt.alloc(), &words, outside, &mut out, &mut err)
+    } else {
+        scan_deps(&rt, rt.alloc(), &words, outside, &mut out, &mut err)
+    };
     ExitCode::from(ended.status)
 }

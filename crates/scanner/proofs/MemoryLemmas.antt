@@ -1,6 +1,6 @@
 -- A run that doesn't end with want of memory has no end that is want of memory.
-use Rattle.std.proofs.Common.{◌≡◌, ℕ, Bool, true, false, List, [], ◌∷◌, if◌then◌else◌, refl, sym, ap, ◌∙◌, inl, inr}
-use Rattle.std.specs.Prelude.{◌≢◌, ◌||◌, All}
+use Rattle.std.proofs.Common.{◌≡◌, ℕ, Bool, true, false, List, [], ◌∷◌, if◌then◌else◌, refl, ap, inl, inr}
+use Rattle.std.specs.Prelude.{◌≢◌, ◌||◌}
 use Rattle.std.specs.List.{list_any}
 use Rattle.std.proofs.lemmas.List.Elements.{All-nil, All-cons}
 use Rattle.scan_model.specs.declared.unit_end.UnitEnd.{UnitEnd}
@@ -10,7 +10,7 @@ use Rattle.scanner.specs.declared.status.Status.{Status}
 use Rattle.scanner.specs.declared.status.Status.TheVariants as Statuses
 use Rattle.scanner.specs.Statuses.{number}
 use Rattle.scanner.specs.Sinks.{Change}
-use Rattle.scanner.specs.Printed.{is_no_memory, is_failure, status_of, failed_status}
+use Rattle.scanner.specs.Printed.{is_no_memory, is_failure}
 use Rattle.scanner.specs.Run.{IsPrintedUnlessNoMemory}
 
 none_left : (a b : Bool) → (a || b) ≡ false → a ≡ false
@@ -33,9 +33,9 @@ by_status : (ends : List UnitEnd) (other : Status) (status : ℕ) (b : Bool) →
 by_status ends other status true h e not = absurd (not e)
 by_status ends other status false h e not = had ends h
 
-pub printed_has_memory : (ends : List UnitEnd) (out err : Change) (status : ℕ) → IsPrintedUnlessNoMemory ends out err status → status ≢ number Statuses.NoMemory → HaveMemory ends
-printed_has_memory ends out err status (inl none) not = absurd (not none.told.status_is)
-printed_has_memory ends out err status (inr (inl all)) not =
+pub printed_has_memory : (text : List ℕ) (ends : List UnitEnd) (out err : Change) (status : ℕ) → IsPrintedUnlessNoMemory text ends out err status → status ≢ number Statuses.NoMemory → HaveMemory ends
+printed_has_memory text ends out err status (inl none) not = absurd (not none.told.status_is)
+printed_has_memory text ends out err status (inr (inl all)) not =
     by_status ends (if list_any is_failure ends then Statuses.SomeFailed else Statuses.Fine) status (list_any is_no_memory ends) refl all.status_is not
-printed_has_memory ends out err status (inr (inr (inl failed))) not = by_status ends Statuses.SinkFault status (list_any is_no_memory ends) refl failed.status_is not
-printed_has_memory ends out err status (inr (inr (inr failed))) not = by_status ends Statuses.SinkFault status (list_any is_no_memory ends) refl failed.status_is not
+printed_has_memory text ends out err status (inr (inr (inl failed))) not = by_status ends Statuses.SinkFault status (list_any is_no_memory ends) refl failed.status_is not
+printed_has_memory text ends out err status (inr (inr (inr failed))) not = by_status ends Statuses.SinkFault status (list_any is_no_memory ends) refl failed.status_is not

@@ -15,12 +15,11 @@ use Rattle.compile_db.specs.declared.entry.Entry.{Entry}
 use Rattle.compile_db.specs.declared.database.DbFault.{DbFault}
 use Rattle.compile_db.specs.declared.database.DbFault.TheVariants.{TooMany}
 use Rattle.compile_db.specs.Database.{database, entries_from, limited, max_entries, of_items, of_value, value_of}
-use Rattle.scan_model.specs.Fits.{JobFits, SettingsFit}
+use Rattle.scan_model.specs.Fits.{JobFits}
 use Rattle.command_words.specs.Jobs.{job_of}
 use Rattle.shard_cache.specs.Ends.{AreEnds, IsEnd}
-use Rattle.program_words.specs.declared.reading.Words.{Words}
-use Rattle.program_words.specs.Words.{HasRanges}
-use Rattle.scanner.specs.Verdict.{PlanFits}
+use Rattle.scanner.specs.declared.verdict.Manner.{Manner}
+use Rattle.scanner.specs.Verdict.{MannerFits, PlanFits}
 
 -- ## The number of commands
 
@@ -47,14 +46,11 @@ unfolding database
 few_entries text entries e = value_few (value_of text) entries e
 
 -- the plan of a database fits
-pub PlanFits-of : (text : List ℕ) (entries : List Entry) (jobs : List Job) (words : Words) → Ok entries ≡ database text → jobs ≡ map (λ entry. job_of entry) entries → All JobFits jobs → SettingsFit words.settings → HasRanges words
-    → PlanFits (record { jobs = jobs; settings = words.settings; workers = words.workers; schedule = words.schedule })
-PlanFits-of text entries jobs words read made fit settings_fit ranges = record {
+pub PlanFits-of : (text : List ℕ) (entries : List Entry) (jobs : List Job) (manner : Manner) → Ok entries ≡ database text → jobs ≡ map (λ entry. job_of entry) entries → All JobFits jobs → MannerFits manner
+    → PlanFits (record { jobs = jobs; manner = manner })
+PlanFits-of text entries jobs manner read made fit fits = record {
   jobs = fit;
-  settings = settings_fit;
-  some_worker = ranges.some_worker;
-  few_workers = ranges.few_workers;
-  schedule = ranges.schedule;
+  manner = fits;
   few = subst (λ n. n ≤ max_entries) (sym (ap (λ js. length js) made ∙ length-map entries (λ entry. job_of entry))) (few_entries text entries (sym read));
 }
 

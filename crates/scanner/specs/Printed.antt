@@ -1,9 +1,9 @@
--- What a run prints for the ends of its commands, and its status.
+-- What a run prints for the ends of its commands, and its status: a text to the output, the document or another, and a
+-- line for each end that is no record to the error output.
 use Rattle.std.specs.Prelude.{◌≡◌, ◌≢◌, ◌⊎◌, ℕ, suc, Bool, true, false, if◌then◌else◌, List, [], ◌∷◌, ◌++◌}
 use Rattle.std.specs.List.{list_any}
 use Rattle.scan_model.specs.declared.unit_end.UnitEnd.{UnitEnd}
 use Rattle.scan_model.specs.declared.unit_end.UnitEnd.TheVariants.{Record, Stopped, Refused, NoMemory}
-use Rattle.p1689_writer.specs.Document.{document}
 use Rattle.report.specs.FaultLines.{fault_line}
 use Rattle.scanner.specs.declared.status.Status.{Status}
 use Rattle.scanner.specs.declared.status.Status.TheVariants.{Fine, SomeFailed, SinkFault}
@@ -46,24 +46,24 @@ status_of ends = if list_any is_no_memory ends then Statuses.NoMemory else if li
 abbrev pub failed_status : List UnitEnd → Status
 failed_status ends = if list_any is_no_memory ends then Statuses.NoMemory else SinkFault
 
--- the document was put to the output, and then the lines, where there are any, to the error output
-pub record PrintedAll (ends : List UnitEnd) (out err : Change) (status : ℕ) : Type 0 where
+-- the text was put to the output, and then the lines, where there are any, to the error output
+pub record PrintedAll (text : List ℕ) (ends : List UnitEnd) (out err : Change) (status : ℕ) : Type 0 where
   pub status_is : status ≡ number (status_of ends)
-  pub document_put : GotAll (document ends) out
+  pub text_put : GotAll text out
   pub lines_put : GotAny (diagnostics ends) err
 
 -- the output failed, and nothing was put to the error output
-pub record OutputFailed (ends : List UnitEnd) (out err : Change) (status : ℕ) : Type 0 where
+pub record OutputFailed (text : List ℕ) (ends : List UnitEnd) (out err : Change) (status : ℕ) : Type 0 where
   pub status_is : status ≡ number (failed_status ends)
-  pub document_begun : GotPart (document ends) out
+  pub text_begun : GotPart text out
   pub no_lines : GotNothing err
 
 -- there are lines, and the error output failed
-pub record LinesFailed (ends : List UnitEnd) (out err : Change) (status : ℕ) : Type 0 where
+pub record LinesFailed (text : List ℕ) (ends : List UnitEnd) (out err : Change) (status : ℕ) : Type 0 where
   pub status_is : status ≡ number (failed_status ends)
-  pub document_put : GotAll (document ends) out
+  pub text_put : GotAll text out
   pub some_lines : diagnostics ends ≢ []
   pub lines_begun : GotPart (diagnostics ends) err
 
-abbrev pub IsPrinted : List UnitEnd → Change → Change → ℕ → Type 0
-IsPrinted ends out err status = PrintedAll ends out err status ⊎ (OutputFailed ends out err status ⊎ LinesFailed ends out err status)
+abbrev pub IsPrinted : List ℕ → List UnitEnd → Change → Change → ℕ → Type 0
+IsPrinted text ends out err status = PrintedAll text ends out err status ⊎ (OutputFailed text ends out err status ⊎ LinesFailed text ends out err status)

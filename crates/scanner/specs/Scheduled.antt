@@ -6,14 +6,15 @@ use Rattle.shard_cache.specs.StoreMap.{file_map}
 use Rattle.scheduler.specs.Order.{IsInOrder}
 use Rattle.scanner.specs.declared.status.Status.TheVariants.{NoMemory}
 use Rattle.scanner.specs.declared.verdict.Verdict.{Verdict}
-use Rattle.scanner.specs.declared.verdict.Verdict.TheVariants.{Refuse, Scan}
+use Rattle.scanner.specs.declared.verdict.Verdict.TheVariants.{Refuse, Scan, Make}
 use Rattle.scanner.specs.Statuses.{number}
 
--- where there is a plan, the rows were added in the order in which its schedule publishes them
+-- where there is a plan for a database, the rows were added in the order in which its schedule publishes them
 abbrev pub IsInPlannedOrder : {S O G : Type 0} → (G → Outcome) → (G → List ℕ) → Option Verdict → List (ShardView S O G) → List (ShardView S O G) → Type 0
 IsInPlannedOrder outcome bytes None old new = ⊤
 IsInPlannedOrder outcome bytes (Some (Refuse refusal)) old new = ⊤
-IsInPlannedOrder outcome bytes (Some (Scan plan)) old new = IsInOrder (file_map outcome bytes (all_rows new)) plan.jobs plan.settings plan.workers plan.schedule old new
+IsInPlannedOrder outcome bytes (Some (Scan plan)) old new = IsInOrder (file_map outcome bytes (all_rows new)) plan.jobs plan.manner.settings plan.manner.workers plan.manner.schedule old new
+IsInPlannedOrder outcome bytes (Some (Make plan)) old new = ⊤
 
 -- unless the run found no memory
 abbrev pub FollowsSchedule : {S O G : Type 0} → (G → Outcome) → (G → List ℕ) → Option Verdict → List (ShardView S O G) → List (ShardView S O G) → ℕ → Type 0

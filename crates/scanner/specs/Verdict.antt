@@ -4,23 +4,31 @@ use Rattle.scan_model.specs.Fits.{JobFits, SettingsFit}
 use Rattle.scan_model.specs.declared.outcome.Outcome.{Outcome}
 use Rattle.scan_model.specs.declared.outcome.Outcome.TheVariants.{Present, Absent, Failed, Big, NoMemory}
 use Rattle.program_words.specs.declared.reading.Words.{Words}
+use Rattle.program_words.specs.declared.reading.Input.{Input}
+use Rattle.program_words.specs.declared.reading.Input.TheVariants as InputIs
 use Rattle.program_words.specs.declared.reading.Usage.{Usage}
 use Rattle.compile_db.specs.declared.entry.Entry.{Entry}
 use Rattle.compile_db.specs.declared.database.DbFault.{DbFault}
 use Rattle.compile_db.specs.declared.database.DbFault.TheVariants as FaultIs
 use Rattle.compile_db.specs.Database.{database, max_entries}
 use Rattle.command_words.specs.Jobs.{job_of}
+use Rattle.scanner.specs.declared.verdict.Manner.{Manner}
 use Rattle.scanner.specs.declared.verdict.Plan.{Plan}
+use Rattle.scanner.specs.declared.verdict.MadePlan.{MadePlan}
 use Rattle.scanner.specs.declared.verdict.Verdict.{Verdict}
-use Rattle.scanner.specs.declared.verdict.Verdict.TheVariants.{Refuse, Scan}
+use Rattle.scanner.specs.declared.verdict.Verdict.TheVariants.{Refuse, Scan, Make}
 use Rattle.scanner.specs.declared.refusal.Refusal.{Refusal}
 use Rattle.scanner.specs.declared.refusal.Refusal.TheVariants as RefusalIs
 
 -- ## What the words and the read say
 
+abbrev pub path_in : Input → Option (List ℕ)
+path_in (InputIs.Database path) = Some path
+path_in (InputIs.Made units) = None
+
 -- the database's path, where the words name one
 abbrev pub database_path : Result Words Usage → Option (List ℕ)
-database_path (Ok words) = Some words.database
+database_path (Ok words) = path_in words.input
 database_path (Err usage) = None
 
 -- what a read gave: its outcome, and its bytes
@@ -34,14 +42,13 @@ read_of outcome bytes given = option_map (λ g. record { outcome = outcome g; by
 
 -- ## The verdict
 
--- a command for each entry, in order, with what the words say of all of them
-abbrev pub plan_of : Words → List Entry → Plan
-plan_of words entries = record {
-  jobs = map (λ entry. job_of entry) entries;
-  settings = words.settings;
-  workers = words.workers;
-  schedule = words.schedule;
-}
+-- what the words say of all commands
+abbrev pub manner_of : Words → Manner
+manner_of words = record { settings = words.settings; workers = words.workers; schedule = words.schedule }
+
+-- a command for each entry, in order
+abbrev pub plan_of : Manner → List Entry → Plan
+plan_of manner entries = record { jobs = map (λ entry. job_of entry) entries; manner = manner }
 
 abbrev pub of_fault : DbFault → Refusal
 of_fault FaultIs.NotJson = RefusalIs.NotJson
@@ -49,38 +56,53 @@ of_fault FaultIs.NotArray = RefusalIs.NotArray
 of_fault (FaultIs.BadEntry number) = RefusalIs.BadEntry number
 of_fault (FaultIs.TooMany count) = RefusalIs.TooMany
 
-abbrev pub of_database : Words → Result (List Entry) DbFault → Verdict
-of_database words (Ok entries) = Scan (plan_of words entries)
-of_database words (Err fault) = Refuse (of_fault fault)
+abbrev pub of_database : Manner → Result (List Entry) DbFault → Verdict
+of_database manner (Ok entries) = Scan (plan_of manner entries)
+of_database manner (Err fault) = Refuse (of_fault fault)
 
 -- none where the read found no memory
-abbrev pub of_read : Words → Outcome → List ℕ → Option Verdict
-of_read words Present bytes = Some (of_database words (database bytes))
-of_read words Absent bytes = Some (Refuse RefusalIs.DbAbsent)
-of_read words Failed bytes = Some (Refuse RefusalIs.DbFailed)
-of_read words Big bytes = Some (Refuse RefusalIs.DbBig)
-of_read words NoMemory bytes = None
+abbrev pub of_read : Manner → Outcome → List ℕ → Option Verdict
+of_read manner Present bytes = Some (of_database manner (database bytes))
+of_read manner Absent bytes = Some (Refuse RefusalIs.DbAbsent)
+of_read manner Failed bytes = Some (Refuse RefusalIs.DbFailed)
+of_read manner Big bytes = Some (Refuse RefusalIs.DbBig)
+of_read manner NoMemory bytes = None
+
+-- a database is read, and a made tree needs no read
+abbrev pub of_input : Manner → Input → Option Read → Option Verdict
+of_input manner (InputIs.Database path) None = None
+of_input manner (InputIs.Database path) (Some read) = of_read manner read.outcome read.bytes
+of_input manner (InputIs.Made units) None = Some (Make (record { units = units; manner = manner }))
+of_input manner (InputIs.Made units) (Some read) = None
 
 -- Of what the words ask for, and of what the database's read gave. None where memory was wanting before there was a
 -- verdict.
 abbrev pub verdict : Result Words Usage → Option Read → Option Verdict
 verdict (Err usage) None = Some (Refuse RefusalIs.Usage)
 verdict (Err usage) (Some read) = None
-verdict (Ok words) None = None
-verdict (Ok words) (Some read) = of_read words read.outcome read.bytes
+verdict (Ok words) read = of_input (manner_of words) words.input read
 
 -- ## The size of a plan
 
--- A scan takes the commands and the settings. There are no more commands than a database may have, 1 to 64 workers, and
--- the schedule's number is below 2 ^ 31.
+-- a scan takes the settings, there are 1 to 64 workers, and the schedule's number is below 2 ^ 31
+pub record MannerFits (manner : Manner) : Type 0 where
+  pub settings : SettingsFit manner.settings
+  pub some_worker : 1 ≤ manner.workers
+  pub few_workers : manner.workers ≤ 64
+  pub schedule : manner.schedule ≤ 2147483647
+
+-- a scan takes the commands, of which there are no more than a database may have
 pub record PlanFits (plan : Plan) : Type 0 where
   pub jobs : All JobFits plan.jobs
-  pub settings : SettingsFit plan.settings
   pub few : length plan.jobs ≤ max_entries
-  pub some_worker : 1 ≤ plan.workers
-  pub few_workers : plan.workers ≤ 64
-  pub schedule : plan.schedule ≤ 2147483647
+  pub manner : MannerFits plan.manner
+
+-- a made tree has 1 to 4096 units
+pub record MadePlanFits (plan : MadePlan) : Type 0 where
+  pub units : (1 ≤ plan.units) × (plan.units ≤ 4096)
+  pub manner : MannerFits plan.manner
 
 abbrev pub VerdictFits : Verdict → Type 0
 VerdictFits (Refuse refusal) = ⊤
 VerdictFits (Scan plan) = PlanFits plan
+VerdictFits (Make plan) = MadePlanFits plan

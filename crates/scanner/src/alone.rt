@@ -8,11 +8,12 @@ ghost use Rattle.scanner.specs.Verdict.{database_path, read_of, verdict, PlanFit
 ghost use Rattle.scanner.specs.Asked.{AsksDatabase};
 ghost use Rattle.scanner.specs.Statuses.{number};
 ghost use Rattle.scanner.specs.Sinks.{put_to};
-ghost use Rattle.scanner.specs.Run.{IsRun, IsRefusedOr, IsSought};
+ghost use Rattle.scanner.specs.Run.{IsRun, IsSought};
 ghost use Rattle.scanner.specs.Scheduled.{FollowsSchedule};
 
-use crate::printing::{print_ends, put, tell_no_memory};
-use crate::refusal::Refusal;
+use crate::made::make_alone;
+use crate::printing::{print_document, tell_no_memory};
+use crate::refusing::refuse;
 use crate::status::Status;
 use crate::verdict::{Plan, Verdict, read_verdict};
 use crate::{Ended, Outside};
@@ -104,19 +105,7 @@ fn carry_out<S: Source, K: Sink, E: Sink>(
     match verdict {
         Verdict::Refuse(refusal) => refuse(alloc, *refusal, err),
         Verdict::Scan(plan) => scan(alloc, plan, store, out, err),
-    }
-}
-
-fn refuse<E: Sink>(alloc: Global, refusal: Refusal, err: &mut E) -> Status
-    requires { E.faults err.old < 2 ^ 64 - 1 }
-    ensures { IsRefusedOr refusal (put_to E.held E.faults E.puts err.old err.new) (number result) }
-{
-    match refusal.text(alloc) {
-        Ok(text) => {
-            let _ = put(text.as_bytes(), err);
-            refusal.status()
-        }
-        Err(NoMemory) => tell_no_memory(err),
+        Verdict::Make(plan) => make_alone(alloc, plan, out, err),
     }
 }
 
@@ -134,7 +123,7 @@ fn scan<S: Source, K: Sink, E: Sink>(
     ensures run { IsRun S.given_outcome S.given_bytes (Some (Verdict.Scan plan.now)) store.new
         (put_to K.held K.faults K.puts out.old out.new) (put_to E.held E.faults E.puts err.old err.new) (number result) }
     ensures one_map { IsOneMap S.given_path S.given_origin store.new }
-    ensures looked { All (IsLookedAt (file_map S.given_outcome S.given_bytes (all_rows store.new)) plan.now.settings plan.now.jobs)
+    ensures looked { All (IsLookedAt (file_map S.given_outcome S.given_bytes (all_rows store.new)) plan.now.manner.settings plan.now.jobs)
         (all_asked store.new) }
     ensures order { FollowsSchedule S.given_outcome S.given_bytes (Some (Verdict.Scan plan.now)) store.old store.new (number result) }
     ensures origins { all_origins store.new ≡ all_origins store.old }
@@ -142,13 +131,13 @@ fn scan<S: Source, K: Sink, E: Sink>(
     let run = run_schedule(
         alloc,
         &plan.jobs,
-        &plan.settings,
-        plan.workers,
-        plan.schedule,
+        &plan.manner.settings,
+        plan.manner.workers,
+        plan.manner.schedule,
         store,
     );
     match run {
-        Ok(ends) => print_ends(alloc, &ends, out, err),
+        Ok(ends) => print_document(alloc, &ends, out, err),
         Err(NoMemory) => tell_no_memory(err),
     }
 }

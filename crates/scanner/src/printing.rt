@@ -1,5 +1,7 @@
 ghost use Rattle.std.specs.Prelude.{◌≡◌, ◌≢◌, ◌<◌, ◌-◌, ◌^◌, ◌++◌, [], IfOk, OnOk, OnErr, length};
 ghost use Rattle.std.specs.List.{list_any};
+ghost use Rattle.p1689_writer.specs.Document.{document};
+ghost use Rattle.report.specs.Counts.{summary};
 ghost use Rattle.scanner.specs.Statuses.{number};
 ghost use Rattle.scanner.specs.Printed.{is_record, is_no_memory, is_failure, line_of, diagnostics, status_of, failed_status};
 ghost use Rattle.scanner.specs.Run.{IsPrintedUnlessNoMemory, IsToldNoMemory};
@@ -7,13 +9,13 @@ ghost use Rattle.scanner.specs.Sinks.{put_to, GotAll, GotAny, GotPart, GotPut};
 
 use crate::status::Status;
 use file_source::{Failed, Sink};
-use report::fault_line;
+use report::{fault_line, summary};
 use scan_model::{Items, NoMemory, UnitEnd};
 use std::alloc::Global;
 
-/// Prints the ends: the document to `out`, and then the lines of the ends that are no record, where there are any, to
+/// Prints the document of the ends to `out`, and then the lines of the ends that are no record, where there are any, to
 /// `err`. All texts are made before the first put. The answer is how the run ends.
-pub(crate) fn print_ends<K: Sink, E: Sink>(
+pub(crate) fn print_document<K: Sink, E: Sink>(
     alloc: Global,
     ends: &Items<UnitEnd>,
     out: &mut K,
@@ -22,16 +24,52 @@ pub(crate) fn print_ends<K: Sink, E: Sink>(
     requires few { length ends.now < 2 ^ 32 - 1 }
     requires out_count { K.faults out.old < 2 ^ 64 - 1 }
     requires err_count { E.faults err.old < 2 ^ 64 - 1 }
-    ensures { IsPrintedUnlessNoMemory ends.now
+    ensures { IsPrintedUnlessNoMemory (document ends.now) ends.now
         (put_to K.held K.faults K.puts out.old out.new) (put_to E.held E.faults E.puts err.old err.new) (number result) }
 {
-    let Ok(document) = p1689_writer::text(alloc, ends) else {
-        return tell_no_memory(err);
-    };
+    match p1689_writer::text(alloc, ends) {
+        Ok(document) => print_text(alloc, document.as_slice(), ends, out, err),
+        Err(NoMemory) => tell_no_memory(err),
+    }
+}
+
+/// The same with the summary of the ends, and of so many paths, in place of the document.
+pub(crate) fn print_summary<K: Sink, E: Sink>(
+    alloc: Global,
+    ends: &Items<UnitEnd>,
+    paths: u64,
+    out: &mut K,
+    err: &mut E,
+) -> Status
+    requires few { length ends.now < 2 ^ 32 - 1 }
+    requires out_count { K.faults out.old < 2 ^ 64 - 1 }
+    requires err_count { E.faults err.old < 2 ^ 64 - 1 }
+    ensures { IsPrintedUnlessNoMemory (summary ends.now paths) ends.now
+        (put_to K.held K.faults K.puts out.old out.new) (put_to E.held E.faults E.puts err.old err.new) (number result) }
+{
+    match summary(alloc, ends, paths) {
+        Ok(text) => print_text(alloc, text.as_slice(), ends, out, err),
+        Err(NoMemory) => tell_no_memory(err),
+    }
+}
+
+fn print_text<K: Sink, E: Sink>(
+    alloc: Global,
+    text: &[u8],
+    ends: &Items<UnitEnd>,
+    out: &mut K,
+    err: &mut E,
+) -> Status
+    requires few { length ends.now < 2 ^ 32 - 1 }
+    requires out_count { K.faults out.old < 2 ^ 64 - 1 }
+    requires err_count { E.faults err.old < 2 ^ 64 - 1 }
+    ensures { IsPrintedUnlessNoMemory text.now ends.now
+        (put_to K.held K.faults K.puts out.old out.new) (put_to E.held E.faults E.puts err.old err.new) (number result) }
+{
     let Ok(lines) = fault_lines(alloc, ends.as_slice()) else {
         return tell_no_memory(err);
     };
-    if put(document.as_slice(), out).is_err() {
+    if put(text, out).is_err() {
         return failed_status(ends.as_slice());
     }
     if put_any(&lines, err).is_err() {

@@ -3,6 +3,7 @@ ghost use Rattle.shard_cache.specs.StoreMap.{IsUntouched};
 
 mod inputs;
 mod limits;
+mod threads;
 mod units;
 
 use self::inputs::{
@@ -224,6 +225,36 @@ import k;
     },
 ];
 
+// A run over a made tree: its words and its summary.
+#[derive(Clone, Copy)]
+struct Made {
+    words: &'static str,
+    out: &'static str,
+}
+
+const MADE: [Made; 5] = [
+    Made {
+        words: "--made=1 -j 1",
+        out: "commands 1\nrecords 1\nfaults 0\npaths 5\n",
+    },
+    Made {
+        words: "--made=2 -j 1",
+        out: "commands 2\nrecords 2\nfaults 0\npaths 9\n",
+    },
+    Made {
+        words: "--made=64 -j 1",
+        out: "commands 64\nrecords 64\nfaults 0\npaths 128\n",
+    },
+    Made {
+        words: "--made=64 -j 8",
+        out: "commands 64\nrecords 64\nfaults 0\npaths 128\n",
+    },
+    Made {
+        words: "--made=4096 -j 1",
+        out: "commands 4096\nrecords 4096\nfaults 0\npaths 4160\n",
+    },
+];
+
 // A run that is refused: its words, its database and its status with its line.
 #[derive(Clone, Copy)]
 struct Refused {
@@ -233,7 +264,7 @@ struct Refused {
     err: &'static str,
 }
 
-const REFUSALS: [Refused; 10] = [
+const REFUSALS: [Refused; 13] = [
     Refused {
         words: "--compilation-database=/p/db.json -j 0",
         database: ONE_U,
@@ -290,6 +321,24 @@ const REFUSALS: [Refused; 10] = [
     },
     Refused {
         words: "--compilation-database /p/db.json --format=make",
+        database: ONE_U,
+        status: 2,
+        err: USAGE,
+    },
+    Refused {
+        words: "--made=0",
+        database: ONE_U,
+        status: 2,
+        err: USAGE,
+    },
+    Refused {
+        words: "--made=4097",
+        database: ONE_U,
+        status: 2,
+        err: USAGE,
+    },
+    Refused {
+        words: "--made=1 --compilation-database=/p/db.json",
         database: ONE_U,
         status: 2,
         err: USAGE,
@@ -386,6 +435,27 @@ fn is_as_said_by(rt: &impl Abort, alloc: Global, words: &str, case: &Case) -> Re
 fn scans(rt: HostRuntime) -> Result<(), Fail> {
     for case in SCANS {
         is_as_said(&rt, rt.alloc(), &case)?;
+    }
+    Ok(())
+}
+
+// Nothing outside is asked for.
+fn made_case(made: Made) -> Case {
+    Case {
+        words: made.words,
+        database: ONE_U,
+        files: "",
+        status: 0,
+        out: made.out,
+        err: "",
+        paths: 0,
+    }
+}
+
+#[test]
+fn made_trees(rt: HostRuntime) -> Result<(), Fail> {
+    for made in MADE {
+        is_as_said(&rt, rt.alloc(), &made_case(made))?;
     }
     Ok(())
 }

@@ -1,24 +1,23 @@
 ghost use Rattle.std.specs.Prelude.{◌≡◌, [], Some, All, IfOk, IfSome, map, option_map};
 ghost use Rattle.file_source.specs.Givens.{IsGiven};
-ghost use Rattle.program_words.specs.Words.{IsShortWord, HasRanges, texts_of, words_of};
-ghost use Rattle.scan_model.specs.Fits.{JobFits, SettingsFit};
+ghost use Rattle.program_words.specs.Words.{IsShortWord, texts_of, words_of};
+ghost use Rattle.scan_model.specs.Fits.{JobFits};
 ghost use Rattle.compile_db.specs.Database.{database};
 ghost use Rattle.command_words.specs.Jobs.{job_of};
-ghost use Rattle.scanner.specs.Verdict.{database_path, read_of, verdict, of_read, of_database, of_fault, VerdictFits};
+ghost use Rattle.scanner.specs.Verdict.{database_path, read_of, verdict, of_input, of_read, of_database, of_fault, MannerFits, VerdictFits};
 ghost use Rattle.scanner.specs.Asked.{AsksDatabase};
 
 use crate::refusal::Refusal;
 use command_words::job;
 use compile_db::{DbFault, Entry};
 use file_source::Source;
-use program_words::{Usage, Words};
-use scan_model::{Items, Job, NoMemory, Outcome, Settings};
+use program_words::{Input, Usage, Words};
+use scan_model::{Items, Job, NoMemory, Outcome, PathText, Settings};
 use std::alloc::Global;
 
-/// The commands to scan, in order, and what the program's words say of all of them.
+/// What the program's words say of all commands.
 #[derive(Drop)]
-pub(crate) struct Plan {
-    pub(crate) jobs: Items<Job>,
+pub(crate) struct Manner {
     pub(crate) settings: Settings,
     /// How many workers scan them, from 1 to 64.
     pub(crate) workers: u32,
@@ -26,11 +25,26 @@ pub(crate) struct Plan {
     pub(crate) schedule: u32,
 }
 
+/// The commands to scan, in order.
+#[derive(Drop)]
+pub(crate) struct Plan {
+    pub(crate) jobs: Items<Job>,
+    pub(crate) manner: Manner,
+}
+
+/// A made tree to scan, of so many units, from 1 to 4096.
+#[derive(Drop)]
+pub(crate) struct MadePlan {
+    pub(crate) units: u32,
+    pub(crate) manner: Manner,
+}
+
 /// What a run has to do.
 #[derive(Drop)]
 pub(crate) enum Verdict {
     Refuse(Refusal),
     Scan(Plan),
+    Make(MadePlan),
 }
 
 /// Reads the words and the database. `Err` is want of memory; what the database's read gave comes back in any case.
@@ -55,23 +69,60 @@ pub(crate) fn read_verdict<S: Source>(
         Ok(Err(Usage)) => return (Ok(Verdict::Refuse(Refusal::Usage)), None),
         Err(NoMemory) => return (Err(NoMemory), None),
     };
-    let opener = match db.ask(alloc, &words.database) {
+    let Words {
+        input,
+        settings,
+        workers,
+        schedule,
+    } = words;
+    let manner = Manner {
+        settings,
+        workers,
+        schedule,
+    };
+    match input {
+        Input::Database(path) => read_database(alloc, &path, manner, db),
+        Input::Made(units) => (Ok(Verdict::Make(MadePlan { units, manner })), None),
+    }
+}
+
+fn read_database<S: Source>(
+    alloc: Global,
+    path: &PathText,
+    manner: Manner,
+    db: &mut S,
+) -> (Result<Verdict, NoMemory>, Option<S::Given>)
+    requires fresh { S.asked db.old ≡ [] }
+    requires manner { MannerFits manner }
+    ensures verdict { IfOk result.0 (λ v. of_input manner (Input.Database path.now)
+        (read_of S.given_outcome S.given_bytes result.1) ≡ Some v) }
+    ensures fits { IfOk result.0 VerdictFits }
+    ensures given { IfSome result.1 (λ g. IsGiven (S.given_outcome g) (S.given_bytes g) (S.given_faults g) (S.given_came g)) }
+    ensures given_here { IfSome result.1 (λ g. S.given_origin g ≡ S.origin db.old) }
+    ensures same_origin { S.origin db.new ≡ S.origin db.old }
+    ensures asked { AsksDatabase (Some path.now) (S.asked db.new) (option_map S.given_path result.1) }
+{
+    let opener = match db.ask(alloc, path) {
         Ok(opener) => opener,
         Err(NoMemory) => return (Err(NoMemory), None),
     };
     let given = S::read(alloc, opener);
-    let verdict = of_read(alloc, S::outcome(&given), S::bytes(&given), words);
+    let verdict = of_read(alloc, S::outcome(&given), S::bytes(&given), manner);
     (verdict, Some(given))
 }
 
-fn of_read(alloc: Global, outcome: Outcome, bytes: &[u8], words: Words) -> Result<Verdict, NoMemory>
-    requires settings { SettingsFit words.settings }
-    requires ranges { HasRanges words }
-    ensures verdict { IfOk result (λ v. of_read words outcome bytes.now ≡ Some v) }
+fn of_read(
+    alloc: Global,
+    outcome: Outcome,
+    bytes: &[u8],
+    manner: Manner,
+) -> Result<Verdict, NoMemory>
+    requires { MannerFits manner }
+    ensures verdict { IfOk result (λ v. of_read manner outcome bytes.now ≡ Some v) }
     ensures fits { IfOk result VerdictFits }
 {
     match outcome {
-        Outcome::Present => of_database(alloc, bytes, words),
+        Outcome::Present => of_database(alloc, bytes, manner),
         Outcome::Absent => Ok(Verdict::Refuse(Refusal::DbAbsent)),
         Outcome::Failed => Ok(Verdict::Refuse(Refusal::DbFailed)),
         Outcome::Big => Ok(Verdict::Refuse(Refusal::DbBig)),
@@ -79,27 +130,15 @@ fn of_read(alloc: Global, outcome: Outcome, bytes: &[u8], words: Words) -> Resul
     }
 }
 
-fn of_database(alloc: Global, bytes: &[u8], words: Words) -> Result<Verdict, NoMemory>
-    requires settings { SettingsFit words.settings }
-    requires ranges { HasRanges words }
-    ensures verdict { IfOk result (λ v. v ≡ of_database words (database bytes.now)) }
+fn of_database(alloc: Global, bytes: &[u8], manner: Manner) -> Result<Verdict, NoMemory>
+    requires { MannerFits manner }
+    ensures verdict { IfOk result (λ v. v ≡ of_database manner (database bytes.now)) }
     ensures fits { IfOk result VerdictFits }
 {
     match compile_db::read(alloc, bytes)? {
         Ok(entries) => {
             let jobs = jobs_of(alloc, entries.as_slice())?;
-            let Words {
-                workers,
-                schedule,
-                settings,
-                ..
-            } = words;
-            Ok(Verdict::Scan(Plan {
-                jobs,
-                settings,
-                workers,
-                schedule,
-            }))
+            Ok(Verdict::Scan(Plan { jobs, manner }))
         }
         Err(fault) => Ok(Verdict::Refuse(of_fault(fault))),
     }

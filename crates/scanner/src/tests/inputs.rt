@@ -31,6 +31,20 @@ pub(crate) const SECOND_IS_BAD: &str = r#"/p/db.json
 
 pub(crate) const NO_RULES: &str = "{\n  \"revision\": 0,\n  \"rules\": [],\n  \"version\": 1\n}\n";
 
+pub(crate) const TWO_RULES: &str = r#"{
+  "revision": 0,
+  "rules": [
+    {
+      "primary-output": "a.o"
+    },
+    {
+      "primary-output": "b.o"
+    }
+  ],
+  "version": 1
+}
+"#;
+
 pub(crate) const PROVIDES_M: &str = r#"{
   "revision": 0,
   "rules": [

@@ -1,0 +1,26 @@
+use Rattle.std.proofs.lemmas.List.Elements.{All-nil}
+use Rattle.shard_cache.proofs.MapLemmas.{IsUntouched-IsOneMap}
+use Rattle.scanner.proofs.threaded.scan_deps.Goals as goal
+use Rattle.scanner.proofs.threaded.scan_deps.Goals.{in-Ok+in-Scan-1, in-Ok+in-Refuse-1, in-Ok+in-Make-1, in-Err}
+
+pub returns-clause-one_map : goal.returns-clause-one_map
+returns-clause-one_map g c = elim c.match-verdict.branch [
+  | in-Ok+in-Scan-1 w ↦ rw w.status-is w.carry_out.ensures.one_map
+  | in-Ok+in-Refuse-1 w ↦ rw w.status-is w.carry_out.ensures.one_map
+  | in-Ok+in-Make-1 w ↦ rw w.status-is w.carry_out.ensures.one_map
+  | in-Err w ↦ rw w.status-is (IsUntouched-IsOneMap g.S.Source.given_path g.S.Source.given_origin c.args.outside.store c.requires.fresh_store)
+]
+
+pub returns-clause-looked : goal.returns-clause-looked
+returns-clause-looked g c = elim c.match-verdict.branch [
+  | in-Ok+in-Scan-1 w ↦
+      let decided = rw w.in-Ok.is at c.read_verdict-verdict.ensures.verdict in
+      rw (w.status-is, decided) w.carry_out.ensures.looked
+  | in-Ok+in-Refuse-1 w ↦
+      let decided = rw w.in-Ok.is at c.read_verdict-verdict.ensures.verdict in
+      rw (w.status-is, decided) w.carry_out.ensures.looked
+  | in-Ok+in-Make-1 w ↦
+      let decided = rw w.in-Ok.is at c.read_verdict-verdict.ensures.verdict in
+      rw (w.status-is, decided) w.carry_out.ensures.looked
+  | in-Err w ↦ rw (w.status-is, c.requires.fresh_store.nothing_asked) (All-nil _)
+]
