@@ -25,9 +25,10 @@ _scan_deps() {
             compopt -o filenames
             ;;
         --format) mapfile -t COMPREPLY < <(compgen -W p1689 -- "$value") ;;
+        --made) mapfile -t COMPREPLY < <(compgen -W '1 64 1000 4096' -- "$value") ;;
         -j) mapfile -t COMPREPLY < <(compgen -W '1 2 4 8 16 32 64' -- "$value") ;;
         *)
-            mapfile -t COMPREPLY < <(compgen -W '--compilation-database= --format= -j --predefines= --schedule= --system-dirs=' -- "$word")
+            mapfile -t COMPREPLY < <(compgen -W '--compilation-database= --format= -j --made= --predefines= --schedule= --system-dirs=' -- "$word")
             [[ ${COMPREPLY[0]-} != *= ]] || compopt -o nospace
             ;;
     esac
