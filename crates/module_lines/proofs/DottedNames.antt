@@ -4,7 +4,7 @@ use Rattle.std.specs.Prelude.{Some}
 use Rattle.scan_model.specs.declared.token.Tok.{Tok}
 use Rattle.scan_model.specs.ModuleLines.{Dotted, dotted, dotted_rest, after_text}
 use Rattle.module_lines.specs.Further.{has_further}
-use Rattle.module_lines.specs.Identifiers.{HasUtf8Name, HaveUtf8Names}
+use Rattle.scan_model.specs.Utf8Names.{HasUtf8Name, HaveUtf8Names}
 use Rattle.std.proofs.lemmas.List.Elements.{All-drop}
 
 -- a further identifier is part of the name

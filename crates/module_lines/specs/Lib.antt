@@ -1,4 +1,3 @@
-pub mod Identifiers
 pub mod Known
 pub mod Further
 pub mod Builders

@@ -2,10 +2,10 @@ ghost use Rattle.std.specs.Prelude.{◌≡◌, ◌<◌, IfOk, IfSome, Option, le
 ghost use Rattle.std.specs.Option.{option_map};
 ghost use Rattle.scan_model.specs.ModuleLines.{dotted};
 ghost use Rattle.module_lines.specs.Found.{dotted_of};
-ghost use Rattle.module_lines.specs.Identifiers.{HaveUtf8Names};
+ghost use Rattle.scan_model.specs.Utf8Names.{HaveUtf8Names};
 
 use crate::names::{append, text_of};
-use crate::token_tests::{has_further, is_identifier};
+use crate::token_tests::has_further;
 use scan_model::{NoMemory, Text, Tok};
 use std::alloc::Global;
 
@@ -25,7 +25,7 @@ pub(crate) fn read_dotted<'a>(
     ensures value { IfOk result (λ d. option_map dotted_of d ≡ dotted toks.now) }
     ensures utf8 { IfOk result (λ d. IfSome d (λ d. HaveUtf8Names d.after.now)) }
 {
-    if toks.is_empty() || !is_identifier(&toks[0]) {
+    if toks.is_empty() || !toks[0].is_ident() {
         return Ok(None);
     }
     let mut name = Vec::from_slice(alloc, toks[0].text.as_slice())?;

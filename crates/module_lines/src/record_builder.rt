@@ -2,7 +2,7 @@ ghost use Rattle.std.specs.Prelude.{◌≡◌, IfOk, OnOk, OnErr, Some, is_some}
 ghost use Rattle.std.specs.Option.{option_map};
 ghost use Rattle.scan_model.specs.ModuleLines as line;
 ghost use Rattle.module_lines.specs.Found.{subject_of};
-ghost use Rattle.module_lines.specs.Identifiers.{HaveUtf8Names};
+ghost use Rattle.scan_model.specs.Utf8Names.{HaveUtf8Names};
 ghost use Rattle.module_lines.specs.Lines.{Takes};
 
 use crate::names::with_part;

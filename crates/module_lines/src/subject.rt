@@ -3,7 +3,7 @@ ghost use Rattle.std.specs.Option.{option_map};
 ghost use Rattle.scan_model.specs.ModuleLines as line;
 ghost use Rattle.scan_model.specs.TokenTests.{begins_with, is_sign};
 ghost use Rattle.module_lines.specs.Found.{after_colon, named, subject_of};
-ghost use Rattle.module_lines.specs.Identifiers.{HaveUtf8Names};
+ghost use Rattle.scan_model.specs.Utf8Names.{HaveUtf8Names};
 
 use crate::dotted::{Dotted, read_dotted};
 use crate::token_tests::{is_colon, is_ended, is_private, is_semicolon};

@@ -1,5 +1,5 @@
 ghost use Rattle.std.specs.Prelude.{IfOk, IsUtf8};
-ghost use Rattle.module_lines.specs.Identifiers.{HaveUtf8Names};
+ghost use Rattle.scan_model.specs.Utf8Names.{HaveUtf8Names};
 
 use crate::RecordBuilder;
 use scan_model::{Bytes, Keyword, Kind, ModuleFault, NoMemory, Record, Text, Tok};

@@ -1,16 +1,9 @@
 ghost use Rattle.std.specs.Prelude.{◌≡◌, [], ◌∷◌};
-ghost use Rattle.scan_model.specs.declared.token.Kind.TheVariants.{Ident};
-ghost use Rattle.scan_model.specs.TokenTests.{is_of, is_sign};
+ghost use Rattle.scan_model.specs.TokenTests.{is_sign};
 ghost use Rattle.scan_model.specs.ModuleLines.{names_header, is_ended, is_private};
 ghost use Rattle.module_lines.specs.Further.{has_further};
 
 use scan_model::{Kind, Tok};
-
-pub(crate) fn is_identifier(tok: &Tok) -> bool
-    ensures { result ≡ is_of Ident tok.now }
-{
-    matches!(tok.kind, Kind::Ident)
-}
 
 pub(crate) fn is_semicolon(tok: &Tok) -> bool
     ensures { result ≡ is_sign (";" ∷ []) tok.now }
@@ -66,5 +59,5 @@ pub(crate) fn is_private(toks: &[Tok]) -> bool
 pub(crate) fn has_further(toks: &[Tok]) -> bool
     ensures { result ≡ has_further toks.now }
 {
-    toks.len() >= 2 && is_dot(&toks[0]) && is_identifier(&toks[1])
+    toks.len() >= 2 && is_dot(&toks[0]) && toks[1].is_ident()
 }

@@ -4,7 +4,7 @@ use Rattle.std.proofs.lemmas.List.Elements.{All-nil}
 use Rattle.std.proofs.lemmas.Option.{slice_get_within, get_or_from_slice_get}
 use Rattle.scan_model.specs.declared.token.Line.{Line}
 use Rattle.reducer.specs.ReducedLines.{toks_of, AreReduced}
-use Rattle.module_lines.specs.Identifiers.{HaveUtf8Names}
+use Rattle.scan_model.specs.Utf8Names.{HaveUtf8Names}
 
 pub drop-slice_get : {A : Type 0} (xs : List A) (k : ℕ) (x : A) → slice_get xs k ≡ Some x → drop k xs ≡ x ∷ drop (k + 1) xs
 drop-slice_get [] k x e = cc

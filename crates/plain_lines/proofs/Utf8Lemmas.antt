@@ -17,7 +17,7 @@ use Rattle.scan_model.specs.Spelling.{spells}
 use Rattle.scan_model.specs.TokenTests.{same, is_of, is_sign, is_comma, is_open_paren, is_close_paren}
 use Rattle.scan_model.specs.MacroDefinition.{Head, with_param, variadic_head, more_params, head, all_params, are_distinct, has_operands, body_fits, function_def, object_def, def_of, is_forbidden, read_define}
 use Rattle.scan_model.specs.Macros.{Macros, put, built_in, built_ins, define, undef, push, pop, restored, cplusplus_23, first_macros}
-use Rattle.module_lines.specs.Identifiers.{HasUtf8Name, HaveUtf8Names}
+use Rattle.scan_model.specs.Utf8Names.{HasUtf8Name, HaveUtf8Names}
 use Rattle.replaced_names.specs.Names.{HasUtf8Body, HaveUtf8Bodies, IsUtf8Map}
 use Rattle.macro_table.specs.Table.{SlotView, macros_of}
 use Rattle.macro_table.specs.Definition.{is_replacement, IsDefinition}

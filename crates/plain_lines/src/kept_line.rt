@@ -1,5 +1,5 @@
 ghost use Rattle.std.specs.Prelude.{◌≡◌, ◌+◌, [], ◌∷◌, MatchOption, IfOk, drop};
-ghost use Rattle.module_lines.specs.Identifiers.{HaveUtf8Names};
+ghost use Rattle.scan_model.specs.Utf8Names.{HaveUtf8Names};
 ghost use Rattle.reducer.specs.Views.{view};
 
 use reducer::{LineHead, Reduced, TokView};

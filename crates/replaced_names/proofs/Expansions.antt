@@ -20,7 +20,7 @@ use Rattle.scan_model.specs.MacroDefinition.{all_params}
 use Rattle.scan_model.specs.Site.{presumed}
 use Rattle.scan_model.specs.Substitution.{Marked, no_name, Arg, Call, subst, is_replaced}
 use Rattle.scan_model.specs.Expansion.{Scope, cost_limit, expand_up_to, Ran, Went, Failed, Replaced, Args, NotReplaced, cut_at_commas, exactly, plain_args, variadic_args, written_args, paid, out, in_condition, in_text, instead, also, hidden_by, arg_named, rescanned, built_in_out, built_in, with_arg, after_arg, replaced_args, called, call_with, call, is_called, by_def, defined_name, defined_out, first_and_rest, first_counter, answer_of, expand}
-use Rattle.module_lines.specs.Identifiers.{HasUtf8Name, HaveUtf8Names}
+use Rattle.scan_model.specs.Utf8Names.{HasUtf8Name, HaveUtf8Names}
 use Rattle.replaced_names.specs.Names.{HasUtf8Body, HaveUtf8Bodies, NamesStay}
 use Rattle.replaced_names.proofs.Lists.{never, Good, good_of, names_of, GoodMark, GoodMarks, marks_append, marks_toks, if_cond, GoodParens, parens_good}
 use Rattle.replaced_names.proofs.Items.{GoodArg, GoodCall, subst_good}

@@ -13,7 +13,7 @@ use Rattle.scan_model.specs.Tokens.{kind_of}
 use Rattle.scan_model.specs.MacroDefinition.{is_opt}
 use Rattle.scan_model.specs.Paste.{is_one_token, paste}
 use Rattle.scan_model.specs.Substitution.{Marked, Arg, Call, Item, Placemarker, Operand, Paste, own, spaced, first_spaced, first_item_spaced, items_of, without_placemarkers, shown_tokens, string_of, join_marked, join, joined_onto, joined, Part, part, given, is_variable, arg_at, has_variable, opt_items, or_placemarker, toks, string_part, string_opt_part, hash_part, opt_part, comma_items, comma_part, plain_part, one_part, items_up_to, subst}
-use Rattle.module_lines.specs.Identifiers.{HasUtf8Name}
+use Rattle.scan_model.specs.Utf8Names.{HasUtf8Name}
 use Rattle.replaced_names.proofs.Lists.{never, Good, GoodMark, GoodMarks, marks_append, marks_toks, marks_first_spaced, if_cond, if_map, if_then, GoodParens, parens_good}
 
 -- ## Items

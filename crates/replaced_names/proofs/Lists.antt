@@ -9,7 +9,7 @@ use Rattle.scan_model.specs.declared.token.Tok.{Tok}
 use Rattle.scan_model.specs.Parentheses.{Enclosed, onto_inside, enclosed, in_parens, depth_after}
 use Rattle.scan_model.specs.TokenTests.{is_open_paren, is_close_paren}
 use Rattle.scan_model.specs.Substitution.{Marked, spaced, first_spaced}
-use Rattle.module_lines.specs.Identifiers.{HasUtf8Name, HaveUtf8Names}
+use Rattle.scan_model.specs.Utf8Names.{HasUtf8Name, HaveUtf8Names}
 
 -- ## Tokens
 

@@ -8,7 +8,7 @@ use Rattle.scan_model.specs.declared.expansion.Mode.{Mode}
 use Rattle.scan_model.specs.declared.expansion.Expanded.TheVariants.{Done}
 use Rattle.scan_model.specs.Macros.{Macros}
 use Rattle.scan_model.specs.Expansion.{expand}
-use Rattle.module_lines.specs.Identifiers.{HaveUtf8Names}
+use Rattle.scan_model.specs.Utf8Names.{HaveUtf8Names}
 
 -- the text of each identifier of the replacement list is well-formed UTF-8
 abbrev pub HasUtf8Body : Def → Type 0

@@ -4,5 +4,5 @@ pub mod BlankLemmas
 pub mod LineLemmas
 pub mod LongestLemmas
 pub mod QuotedLemmas
-pub mod NameLemmas
 pub mod RestLemmas
+pub mod LexemeCases

@@ -1,14 +1,15 @@
 -- Each token takes at least one byte, so the lines of a text are those of one step and of the rest.
-use Rattle.std.proofs.Common.{◌≡◌, ℕ, zero, suc, ◌+◌, ◌-◌, ◌<◌, ◌≤◌, Bool, true, false, cond, ◌&&◌, if◌then◌else◌, append-nil, ◌==◌, nat_lt, List, [], ◌∷◌, ◌++◌, refl, ap, sym, ◌∙◌, subst, drop, take, length, length-drop, arith, Option, Some, None}
+use Rattle.std.proofs.Common.{◌≡◌, ℕ, zero, suc, ◌+◌, ◌-◌, ◌<◌, ◌≤◌, Bool, true, false, cond, append-nil, ◌==◌, nat_lt, List, [], ◌∷◌, ◌++◌, refl, ap, sym, ◌∙◌, subst, drop, take, length, length-drop, arith, Option, Some, None}
 use Rattle.std.proofs.lemmas.Bool.{ltb-true, cond_both, and_parts}
 use Rattle.std.specs.Option.{option_map_or}
 use Rattle.scan_model.specs.declared.token.Kind.{Kind}
 use Rattle.scan_model.specs.declared.token.Kind.TheVariants.{Stray, Punct, Header}
 use Rattle.scan_model.specs.declared.token.Tok.{Tok}
 use Rattle.scan_model.specs.Spliced.{Spot, line_at}
-use Rattle.scan_model.specs.Spelling.{opens_raw, encoding_len, is_delimited, after_raw, longest, is_header, is_suffix}
-use Rattle.scan_model.specs.Tokens.{Lexeme, is_token, is_character, kind_of, bytes, after_blanks, cut, wants_header, is_open, is_lone_less, rest_of_line, from_place, raw_closed, raw_lexeme, written_after, lexeme, token_at, next_token}
+use Rattle.scan_model.specs.Spelling.{encoding_len, is_delimited, after_raw, longest, is_header, is_suffix}
+use Rattle.scan_model.specs.Tokens.{Lexeme, is_token, is_character, kind_of, bytes, after_blanks, cut, wants_header, rest_of_line, from_place, raw_closed, raw_lexeme, written_after, lexeme, token_at, next_token}
 use Rattle.scan_model.specs.Lines.{tok, closed, lines_up_to, lines_from}
+use Rattle.scan_model.proofs.LexemeCases.{lexeme_cases, stray_len}
 use Rattle.scan_model.proofs.BlankLemmas.{length-after_blanks}
 
 -- less is left
@@ -46,28 +47,16 @@ raw_takes text x s h =
     (λ e. line_takes x s h)
 
 lexeme_takes : (text : List ℕ) (before : List Tok) (x : Spot) (s : List Spot) → (x.byte == 10) ≡ false → Takes (x ∷ s) (lexeme text before (x ∷ s))
-unfolding lexeme
 lexeme_takes text before x s h =
     let b = rest_of_line (bytes (x ∷ s)) in
     let header = longest is_header b in
     let n = longest is_token b in
-    let unclosed = cut Stray (length b) (x ∷ s) in
-    let token = cut (kind_of (take n b)) n (x ∷ s) in
     let character = longest is_character b in
-    let one = if nat_lt 0 character then character else 1 in
-    let some : 0 < one = cond_both (nat_lt 0 character) character 1 (λ k. 0 < k) (λ e. ltb-true 0 character e) (λ e. omega arith) in
-    let stray = cut Stray one (x ∷ s) in
-    let from_token = cond (nat_lt 0 n) token stray in
-    let from_less = cond (is_lone_less b) (cut Punct 1 (x ∷ s)) from_token in
-    let from_open = cond (is_open b) unclosed from_less in
-    let from_raw = cond (opens_raw b) (raw_lexeme text (x ∷ s)) from_open in
-    cond_both (wants_header before && nat_lt 0 header) (cut Header header (x ∷ s)) from_raw (Takes (x ∷ s))
+    let some : 0 < stray_len b = cond_both (nat_lt 0 character) character 1 (λ k. 0 < k) (λ e. ltb-true 0 character e) (λ e. omega arith) in
+    lexeme_cases text before (x ∷ s) (Takes (x ∷ s))
     (λ e. cut_takes Header header x s (ltb-true 0 header (and_parts (wants_header before) (nat_lt 0 header) e).1))
-    (λ e. cond_both (opens_raw b) (raw_lexeme text (x ∷ s)) from_open (Takes (x ∷ s)) (λ e. raw_takes text x s h)
-    (λ e. cond_both (is_open b) unclosed from_less (Takes (x ∷ s)) (λ e. line_takes x s h)
-    (λ e. cond_both (is_lone_less b) (cut Punct 1 (x ∷ s)) from_token (Takes (x ∷ s)) (λ e. cut_takes Punct 1 x s (omega arith))
-    (λ e. cond_both (nat_lt 0 n) token stray (Takes (x ∷ s)) (λ e. cut_takes (kind_of (take n b)) n x s (ltb-true 0 n e))
-    (λ e. cut_takes Stray one x s some)))))
+    (λ e. raw_takes text x s h) (λ e. line_takes x s h) (λ e. cut_takes Punct 1 x s (omega arith))
+    (λ e. cut_takes (kind_of (take n b)) n x s (ltb-true 0 n e)) (cut_takes Stray (stray_len b) x s some)
 
 -- a test that lets a lexeme through
 pub if_some : (b : Bool) (x l : Lexeme) → cond b None (Some x) ≡ Some l → (b ≡ false) × (x ≡ l)

@@ -3,6 +3,7 @@ pub mod Spelling
 pub mod Tokens
 pub mod Lines
 pub mod TokenTests
+pub mod Utf8Names
 pub mod Parentheses
 pub mod Paste
 pub mod Dialects

@@ -2,7 +2,7 @@ use Rattle.std.proofs.Common.{◌≡◌, length}
 use Rattle.std.specs.Prelude.{Some}
 use Rattle.std.specs.Str.{IsUtf8}
 use Rattle.scan_model.specs.ModuleLines.{dotted, dotted_rest, after_text}
-use Rattle.module_lines.specs.Identifiers.{HaveUtf8Names}
+use Rattle.scan_model.specs.Utf8Names.{HaveUtf8Names}
 use Rattle.module_lines.proofs.dotted.read_dotted.Given as goal
 
 -- the name so far and what follows it make the whole dotted name

@@ -1,4 +1,4 @@
-use Rattle.module_lines.specs.Identifiers.{HaveUtf8Names}
+use Rattle.scan_model.specs.Utf8Names.{HaveUtf8Names}
 use Rattle.module_lines.proofs.tests.tokens.Given as goal
 
 abbrev pub invariant-words : goal.invariant-words

@@ -3,7 +3,7 @@ use Rattle.std.specs.Option.{option_map}
 use Rattle.std.proofs.lemmas.List.Elements.{All-drop}
 use Rattle.scan_model.specs.MacroDefinition.{read_define}
 use Rattle.scan_model.specs.Macros.{define}
-use Rattle.module_lines.specs.Identifiers.{HasUtf8Name}
+use Rattle.scan_model.specs.Utf8Names.{HasUtf8Name}
 use Rattle.macro_table.specs.Table.{macros_of}
 use Rattle.reducer.specs.Views.{defined}
 use Rattle.plain_lines.specs.Lines.{toks_at, after_word}

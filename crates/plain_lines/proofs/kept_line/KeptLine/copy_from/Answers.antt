@@ -1,7 +1,7 @@
 use Rattle.std.proofs.Common.{◌≡◌, ◌++◌, [], ◌∙◌, length, drop, sym, ap, subst, arith, append-nil}
 use Rattle.std.proofs.lemmas.List.Elements.{All-drop}
 use Rattle.reducer.specs.Views.{view}
-use Rattle.module_lines.specs.Identifiers.{HasUtf8Name, HaveUtf8Names}
+use Rattle.scan_model.specs.Utf8Names.{HasUtf8Name, HaveUtf8Names}
 use Rattle.plain_lines.specs.Lines.{toks_at}
 use Rattle.plain_lines.proofs.Places.{copied-one, drop-past, readable_toks}
 use Rattle.plain_lines.proofs.kept_line.KeptLine.copy_from.Goals as goal

@@ -1,4 +1,4 @@
--- What a module line asks of the texts of its tokens.
+-- What module lines ask of the texts of tokens.
 use Rattle.std.specs.Prelude.{List, All, IsTrue, IsUtf8}
 use Rattle.scan_model.specs.declared.token.Kind.TheVariants.{Ident}
 use Rattle.scan_model.specs.declared.token.Tok.{Tok}
