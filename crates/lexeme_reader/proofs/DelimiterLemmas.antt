@@ -1,7 +1,7 @@
 -- The delimiter of a raw string.
 use Rattle.std.proofs.Common.{◌≡◌, ◌≢◌, ℕ, zero, suc, ◌+◌, ◌<◌, ◌≤◌, Bool, true, false, not, ◌==◌, ◌&&◌, List, [], ◌∷◌, refl, ap, sym, ◌∙◌, inl, inr, take, length, get_or, arith}
-use Rattle.std.proofs.lemmas.Bool.{and_left, and_right, and_from, cases_lt, eq-eqb, ne_eqb, le-leb, lt-leb, lt-ltb, le-ltb, true≢false}
-use Rattle.std.proofs.lemmas.List.{get_or-take}
+use Rattle.std.proofs.lemmas.Bool.{and_parts, leb-true, and_left, and_right, and_from, cases_lt, eq-eqb, ne_eqb, le-leb, lt-leb, lt-ltb, le-ltb, true≢false}
+use Rattle.std.proofs.lemmas.List.{get_or-take, length-take-le}
 use Rattle.std.proofs.lemmas.List.Sums.{prefix_len-le-length, prefix_len_is, prefix_len_stops}
 use Rattle.std.proofs.lemmas.List.Folds.{length-prefix_len}
 use Rattle.std.specs.Prelude.{nat_le, nat_lt}
@@ -72,3 +72,12 @@ delimiter_long s i le long before =
           (and_left (nat_le (length (delimiter s)) 16) (list_all in_delimiter (delimiter s)) (lt-leb (length (delimiter s)) 16 (omega arith)))
       | inr all ↦ and_right (nat_le (length (delimiter s)) 16 && list_all in_delimiter (delimiter s)) (nat_lt (length (delimiter s)) (length s)) (le-ltb (length (delimiter s)) (length s) (omega arith))
     ]
+
+-- a good one is short
+pub delimiter_short : (s : List ℕ) (len : ℕ) → IsDelimiter len s → len ≤ 16
+unfolding is_delimited
+delimiter_short s len is =
+    let d = delimiter s in
+    let both = and_parts (nat_le (length d) 16 && list_all in_delimiter d) (nat_lt (length d) (length s)) is.good in
+    let few = leb-true (length d) 16 (and_parts (nat_le (length d) 16) (list_all in_delimiter d) both.0).0 in
+    omega (arith, few, ap length is.bytes_are, length-take-le len s (omega (arith, is.within)))

@@ -14,3 +14,4 @@ pub mod DelimiterLemmas
 pub mod PlaceLemmas
 pub mod RawStringLemmas
 pub mod RunLemmas
+pub mod OverLemmas

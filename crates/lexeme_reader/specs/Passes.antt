@@ -16,6 +16,10 @@ pub record Passes (cs : List ℕ) (old new : List Spot) : Type 0 where
 abbrev pub goes_past : ℕ → ℕ → Bool
 goes_past stop c = not (c == stop || c == 92 || c == 13 || c == 10)
 
+-- the byte shows as it is written, or ends a line, and is another one than `stop`
+abbrev pub goes_over : ℕ → ℕ → Bool
+goes_over stop c = not (c == stop || c == 92 || c == 13)
+
 -- some bytes that pass the test have been passed
 pub record PassesRun (p : ℕ → Bool) (old new : List Spot) : Type 0 where
   pub count : ℕ

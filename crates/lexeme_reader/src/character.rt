@@ -1,4 +1,4 @@
-ghost use Rattle.std.specs.Prelude.{◌≡◌, ◌<◌, ◌≤◌, Some, IsFalse, length, drop, MatchOption};
+ghost use Rattle.std.specs.Prelude.{◌≡◌, ◌<◌, ◌≤◌, Some, length, drop, MatchOption};
 ghost use Rattle.std.specs.Char.{encode_utf8};
 ghost use Rattle.std.specs.Str.{IsUtf8};
 ghost use Rattle.line_splice.specs.Cursor.{text_of, rest};
@@ -89,16 +89,6 @@ pub fn character(at: &Cursor<'_>) -> Option<char>
             }
         }
         None => None,
-    }
-}
-
-/// Whether a character of well-formed UTF-8 stands here.
-pub fn begins_character(at: &Cursor<'_>) -> bool
-    ensures { IsFalse result → NoCharacter (bytes (rest at.now)) }
-{
-    match character(at) {
-        Some(_) => true,
-        None => false,
     }
 }
 

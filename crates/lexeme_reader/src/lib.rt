@@ -11,13 +11,13 @@ mod raw;
 mod raw_text;
 mod steps;
 
-pub use character::{begins_character, pass_character};
+pub use character::pass_character;
 pub use header::pass_header;
 pub use name::{begins_name, pass_name};
 pub use number::{begins_number, pass_number};
 pub use quoted::{Opening, Quote, literal_at, pass_quoted};
 pub use raw::{RawParts, RawSpelling, pass_raw};
-pub use steps::{pass_bytes, pass_until, second_byte};
+pub use steps::{pass_bytes, pass_over};
 
 #[cfg(test)]
 mod tests;

@@ -8,7 +8,7 @@ ghost use Rattle.lexeme_reader.specs.Raws.{IsDelimiter, ContinuesRaw, read_raw, 
 use crate::name::pass_name;
 use crate::quoted::encoding_len;
 use crate::raw_text::{close, delimiter_len};
-use crate::steps::{pass_bytes, pass_line, pass_to};
+use crate::steps::{pass_bytes, pass_line};
 use line_splice::Cursor;
 
 /// The parts of a raw string's spelling, in their order. What shows of its front, what is written inside, and what shows
@@ -78,7 +78,7 @@ fn pass_inside<'a>(at: &mut Cursor<'a>, intro: usize, start: usize, len: usize) 
     let text = at.text();
     match raw_end(text, start, len) {
         Some(end) => {
-            pass_to(at, end);
+            at.pass_to(end);
             let suffix = *at;
             pass_name(at);
             RawParts {
@@ -90,7 +90,7 @@ fn pass_inside<'a>(at: &mut Cursor<'a>, intro: usize, start: usize, len: usize) 
             }
         }
         None => {
-            pass_to(at, text.len());
+            at.pass_to(text.len());
             RawParts {
                 closed: false,
                 intro,

@@ -1,7 +1,8 @@
-ghost use Rattle.std.specs.Prelude.{◌≡◌, ◌+◌, ◌≤◌, ◌++◌, Some, None, [], ◌∷◌, nat_eq, length, drop, false, IsTrue, MatchOption};
-ghost use Rattle.std.specs.List.{starts_with};
+ghost use Rattle.std.specs.Prelude.{◌≡◌, ◌+◌, ◌≤◌, ◌++◌, Some, None, [], ◌∷◌, length, drop, take, false, MatchOption};
 ghost use Rattle.scan_model.specs.Spelling.{is_delimited, after_word};
 ghost use Rattle.lexeme_reader.specs.Raws.{in_delimiter, IsDelimiter};
+
+use memchr::memmem;
 
 // Whether the byte may stand in a delimiter.
 fn in_delimiter(byte: u8) -> bool
@@ -32,27 +33,28 @@ pub fn delimiter_len(written: &[u8]) -> Option<usize>
     None
 }
 
-// Whether `)`, the delimiter and `"` begin the text.
-fn closes(text: &[u8], delimiter: &[u8]) -> bool
-    ensures long { IsTrue result → length delimiter.now + 2 ≤ length text.now }
-    ensures value { result ≡ starts_with nat_eq text.now (41 ∷ delimiter.now ++ 34 ∷ []) }
+// `)`, the delimiter and `"`, and zeros after them.
+fn closing(delimiter: &[u8]) -> [u8; 18]
+    requires { length delimiter.now ≤ 16 }
+    ensures { take (length delimiter.now + 2) result ≡ 41 ∷ delimiter.now ++ 34 ∷ [] }
 {
-    if text.len() < delimiter.len() + 2 {
-        return false;
-    }
-    let quote = text[delimiter.len() + 1];
-    (text[0] == b')') & text[1..].starts_with(delimiter) & (quote == b'"')
+    let len = delimiter.len();
+    let mut closing = [0; 18];
+    closing[0] = b')';
+    closing[1..1 + len].copy_from_slice(delimiter);
+    closing[1 + len] = b'"';
+    closing
 }
 
 // How many bytes there are up to the first `)`, delimiter and `"`, with these.
 pub fn close(inside: &[u8], delimiter: &[u8]) -> Option<usize>
+    requires { length delimiter.now ≤ 16 }
     ensures { MatchOption result (after_word (41 ∷ delimiter.now ++ 34 ∷ []) inside.now ≡ None)
         (λ len. (len ≤ length inside.now) × (after_word (41 ∷ delimiter.now ++ 34 ∷ []) inside.now ≡ Some (drop len inside.now))) }
 {
-    for i in 0..inside.len() {
-        if closes(&inside[i..], delimiter) {
-            return Some(i + delimiter.len() + 2);
-        }
+    let len = delimiter.len() + 2;
+    match memmem::find(inside, &closing(delimiter)[..len]) {
+        Some(at) => Some(at + len),
+        None => None,
     }
-    None
 }

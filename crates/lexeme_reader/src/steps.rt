@@ -1,11 +1,11 @@
-ghost use Rattle.std.specs.Prelude.{◌≡◌, ◌≤◌, length, drop, take, IsTrue, slice_index};
+ghost use Rattle.std.specs.Prelude.{◌≡◌, ◌≢◌, ◌<◌, ◌≤◌, ℕ, true, length, drop, take, IsTrue, slice_index};
 ghost use Rattle.std.specs.List.{list_all};
 ghost use Rattle.line_splice.specs.Cursor.{text_of, rest};
-ghost use Rattle.scan_model.specs.Tokens.{from_place};
 ghost use Rattle.lexeme_reader.specs.Fronts.{line};
-ghost use Rattle.lexeme_reader.specs.Passes.{goes_past, PassesRun};
+ghost use Rattle.lexeme_reader.specs.Passes.{goes_past, goes_over, PassesRun};
 
 use line_splice::Cursor;
+use memchr::memchr3;
 
 /// Passes the next bytes, as many as the count says. They have to be there.
 pub fn pass_bytes(at: &mut Cursor<'_>, count: usize)
@@ -38,14 +38,54 @@ fn run_len(written: &[u8], stop: u8) -> usize
     written.len()
 }
 
-/// Passes the bytes that come next up to `stop`, or to one before it that may not show as it is written: a backslash,
-/// CR or LF. They are passed at once, and none may be there.
+// Passes the bytes that come next up to `stop`, or to one before it that may not show as it is written: a backslash,
+// CR or LF. They are passed at once, and none may be there.
 pub fn pass_until(at: &mut Cursor<'_>, stop: u8)
     ensures text { text_of at.new ≡ text_of at.old }
     ensures run { PassesRun (goes_past stop) (rest at.old) (rest at.new) }
 {
     let count = run_len(at.ahead(), stop);
     at.pass_plain(count);
+}
+
+// How many bytes the text begins with that are neither `stop`, a backslash nor CR.
+fn over_len(written: &[u8], stop: u8) -> usize
+    ensures within { result ≤ length written.now }
+    ensures all { (k : ℕ) → k < result → goes_over stop (slice_index written.now k) ≡ true }
+{
+    match memchr3(stop, b'\\', b'\r', written) {
+        Some(found) => found,
+        None => written.len(),
+    }
+}
+
+// How many of them are passed at once. Before a backslash one is left, since a splice may follow it; at the end, too.
+fn lines_len(written: &[u8], stop: u8) -> usize
+    ensures all { (k : ℕ) → k < result → goes_over stop (slice_index written.now k) ≡ true }
+    ensures within { result ≢ 0 → result < length written.now }
+    ensures next { result ≢ 0 → slice_index written.now result ≢ 92 }
+{
+    let len = over_len(written, stop);
+    if len == written.len() {
+        return len.saturating_sub(1);
+    }
+    if written[len] == b'\\' {
+        return len.saturating_sub(1);
+    }
+    len
+}
+
+/// Passes the bytes that come next up to `stop`, newlines among them, or to one before it that may not show as it is
+/// written: a backslash or CR. They are passed at once, and none may be there.
+pub fn pass_over(at: &mut Cursor<'_>, stop: u8)
+    ensures text { text_of at.new ≡ text_of at.old }
+    ensures run { PassesRun (goes_over stop) (rest at.old) (rest at.new) }
+{
+    let count = lines_len(at.ahead(), stop);
+    if count == 0 {
+        return;
+    }
+    at.pass_lines(count);
 }
 
 // The next byte of the line, or 0 at its end.
@@ -58,7 +98,7 @@ pub fn first_byte(at: &Cursor<'_>) -> u8
     }
 }
 
-/// The byte after the next one of the line, or 0 where there is none.
+// The byte after the next one of the line, or 0 where there is none.
 pub fn second_byte(at: &Cursor<'_>) -> u8
     ensures { result ≡ slice_index (line (rest at.now)) 1 }
 {
@@ -89,19 +129,6 @@ pub fn pass_line(at: &mut Cursor<'_>)
 {
     'line: while let Some(byte) = at.peek() {
         if byte == b'\n' {
-            break;
-        }
-        at.advance();
-    }
-}
-
-// Goes on to the first byte that lies at the place in the text or after it.
-pub fn pass_to(at: &mut Cursor<'_>, place: usize)
-    ensures text { text_of at.new ≡ text_of at.old }
-    ensures rest { rest at.new ≡ from_place place (rest at.old) }
-{
-    'to: while !at.is_end() {
-        if at.raw_from() >= place {
             break;
         }
         at.advance();

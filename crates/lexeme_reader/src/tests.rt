@@ -150,6 +150,14 @@ fn characters(rt: HostRuntime) {
     character(&rt, b"\xc3\\\n\xa9x", 4);
 }
 
+#[test]
+fn bytes_up_to_one_are_passed_at_once(rt: HostRuntime) {
+    let mut at = Cursor::new(b"a\nb*c");
+    pass_over(&mut at, b'*');
+    assert_eq!(rt; at.raw_from(), 3);
+    assert_eq!(rt; at.line(), 2);
+}
+
 // A raw string begins the text: where it is written from and to, and the place after its suffix.
 fn raw(rt: &impl Abort, text: &[u8], closed: bool, written: (usize, usize), place: usize)
     requires { length text.now ≤ 33554432 }

@@ -117,14 +117,14 @@ passed_shows text t place count hidden is splice =
     ap at_splice (sym (ap (drop hidden) (is ∙ take_rest text (place + count)) ∙ drop-drop hidden (place + count) text)) ∙ splice
 
 -- the last line is that of the last spot, if one is left
-last_line-drop : (n line line' : ℕ) (s : List Spot) → (drop n s ≡ [] → ⊥) → last_line line s ≡ last_line line' (drop n s)
+pub last_line-drop : (n line line' : ℕ) (s : List Spot) → (drop n s ≡ [] → ⊥) → last_line line s ≡ last_line line' (drop n s)
 last_line-drop zero line line' [] some = absurd (some refl)
 last_line-drop zero line line' (x ∷ s) some = refl
 last_line-drop (suc n) line line' [] some = absurd (some refl)
 last_line-drop (suc n) line line' (x ∷ s) some = last_line-drop n x.line line' s some
 
 -- after a byte that is no newline one is still to show
-some_left : (text : List ℕ) (place line last : ℕ) → at_splice (drop place text) ≡ false → shows_itself last ≡ true → rest_of text place line last ≡ [] → ⊥
+pub some_left : (text : List ℕ) (place line last : ℕ) → at_splice (drop place text) ≡ false → shows_itself last ≡ true → rest_of text place line last ≡ [] → ⊥
 some_left text place line last splice h = first_spot (λ r. r ≡ [] → ⊥) last place line (drop place text) splice
     (λ f lf z. let p = plain last h in let no : true ≡ false = sym (eq-eqb last 10 lf) ∙ p.lf in cc) (λ b r z. cc)
 
@@ -164,9 +164,10 @@ passes_one text last place line b =
     let t = drop place text in
     let first : get_or t 0 0 ≡ get_or text place 0 = get_or-drop place text 0 0 ∙ ap (λ k. get_or text k 0) (omega arith) in
     let next : drop 1 t ≡ drop (place + 1) text = drop-drop 1 place text ∙ ap (λ k. drop k text) (omega arith) in
+    let some : 0 < length t = omega (arith, b.some) in
     record {
       shows = ap at_splice (sym next) ∙ no_splice t b.next;
-      rest = sym (after_written 0 last 0 place line t b.some (one t b.some b.plain) ∙ ap (λ c. shown c 0 (place + 1) line (drop 1 t)) first
+      rest = sym (after_written 0 last 0 place line t some (one t some b.plain) ∙ ap (λ c. shown c 0 (place + 1) line (drop 1 t)) first
           ∙ ap (shown (get_or text place 0) 0 (place + 1) line) next);
       plain = ap shows_itself (sym first) ∙ b.plain;
     }

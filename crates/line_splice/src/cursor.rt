@@ -1,10 +1,10 @@
-ghost use Rattle.std.specs.Prelude.{◌≡◌, ◌≢◌, ◌+◌, ◌≤◌, ◌<◌, ◌↔◌, [], length, drop, take, IsTrue, IsFalse, if◌then◌else◌};
+ghost use Rattle.std.specs.Prelude.{◌≡◌, ◌≢◌, ◌+◌, ◌-◌, ◌≤◌, ◌<◌, ◌↔◌, [], length, drop, take, slice_index, IsTrue, IsFalse, if◌then◌else◌};
 ghost use Rattle.std.specs.List.{list_all};
-ghost use Rattle.scan_model.specs.Tokens.{bytes};
+ghost use Rattle.scan_model.specs.Tokens.{bytes, from_place};
 ghost use Rattle.scan_model.specs.Spliced.{spliced, last_line, byte_at, line_at, place_at};
 ghost use Rattle.line_splice.specs.Rest.{at_splice, rest_of};
 
-use crate::splices::{begins_plain, front, mark_len, splices_len};
+use crate::splices::{begins_plain, front, mark_len, newlines, plain_end, splices_len};
 
 /// A place among the bytes of a text that show after phase 2 ([lex.phases]): without a byte order mark, with each
 /// backslash that stands before a newline taken away with it, with LF for CR LF, and with an LF added where the last
@@ -33,7 +33,7 @@ fn line_after(is_end: bool, line: u32, next: u32) -> u32
 
 impl<'a> Cursor<'a> {
     ghost use Rattle.line_splice.specs.Cursor.{text_of, rest};
-    ghost use Rattle.line_splice.specs.Plain.{shows_itself, ahead_of};
+    ghost use Rattle.line_splice.specs.Plain.{shows_itself, shows_or_ends, ahead_of};
 
     /// Stands at the first byte that shows. A text has at most 32 MiB.
     #[tactic(auto, unfolding(crate::specs::Cursor::rest))]
@@ -128,6 +128,79 @@ impl<'a> Cursor<'a> {
             line: self.line + lines,
             last: self.text[end - 1],
         };
+    }
+
+    /// Passes the next `count` bytes, newlines among them, which have to show as they are written: none of the bytes ahead, as
+    /// many, is a backslash or CR, and a byte follows them that is no backslash.
+    #[tactic(auto, unfolding(crate::specs::Cursor::rest))]
+    pub fn pass_lines(&mut self, count: usize)
+        requires within { count < length (ahead_of (text_of self.old) (rest self.old)) }
+        requires unspliced { IsTrue (list_all shows_or_ends (take count (ahead_of (text_of self.old) (rest self.old)))) }
+        requires next { slice_index (ahead_of (text_of self.old) (rest self.old)) count ≢ 92 }
+        ensures text { text_of self.new ≡ text_of self.old }
+        ensures rest { rest self.new ≡ drop count (rest self.old) }
+        ensures written { bytes (take count (rest self.old)) ≡ take count (ahead_of (text_of self.old) (rest self.old)) }
+    {
+        if count == 0 {
+            return;
+        }
+        let end = self.place + count;
+        let lines = newlines(&self.text[self.place..end]);
+        *self = Cursor {
+            text: self.text,
+            place: end,
+            line: self.line + lines,
+            last: self.text[end - 1],
+        };
+    }
+
+    // Passes the next `count` bytes of the text as they are written, whatever of them shows. The last of them has to
+    // show as it is written.
+    #[tactic(auto, unfolding(crate::specs::Cursor::rest))]
+    fn pass_written(&mut self, count: usize)
+        requires within { count ≤ length (ahead_of (text_of self.old) (rest self.old)) }
+        requires plain { 0 < count → IsTrue (shows_itself (slice_index (ahead_of (text_of self.old) (rest self.old)) (count - 1))) }
+        ensures text { text_of self.new ≡ text_of self.old }
+        ensures rest { rest self.new ≡ from_place (place_at (text_of self.old) (rest self.old) + count) (rest self.old) }
+    {
+        if count == 0 {
+            return;
+        }
+        let end = self.place + count;
+        let ended = newlines(&self.text[self.place..end]);
+        let (hidden, lines) = splices_len(&self.text[end..]);
+        *self = Cursor {
+            text: self.text,
+            place: end + hidden,
+            line: self.line + ended + lines,
+            last: self.text[end - 1],
+        };
+    }
+
+    // Goes on to the place, byte by byte.
+    fn walk_to(&mut self, place: usize)
+        ensures text { text_of self.new ≡ text_of self.old }
+        ensures rest { rest self.new ≡ from_place place (rest self.old) }
+    {
+        'to: while !self.is_end() {
+            if self.raw_from() >= place {
+                break;
+            }
+            self.advance();
+        }
+    }
+
+    /// Goes on to the first byte that lies at the place in the text or after it, and nowhere if the next byte does.
+    pub fn pass_to(&mut self, place: usize)
+        ensures text { text_of self.new ≡ text_of self.old }
+        ensures rest { rest self.new ≡ from_place place (rest self.old) }
+    {
+        let ahead = self.ahead();
+        let most = place.saturating_sub(self.raw_from()).min(ahead.len());
+        // Up to the last byte that shows as it is written it is of no account what shows.
+        let count = plain_end(&ahead[..most]);
+        self.pass_written(count);
+        self.walk_to(place);
     }
 
     /// Passes the next byte.

@@ -1,7 +1,9 @@
-ghost use Rattle.std.specs.Prelude.{◌≡◌, ◌+◌, ◌≤◌, ℕ, length, drop, IsTrue, IsFalse, MatchOption};
+ghost use Rattle.std.specs.Prelude.{◌≡◌, ◌↔◌, ◌+◌, ◌-◌, ◌<◌, ◌≤◌, ℕ, length, take, drop, slice_index, IsTrue, IsFalse, MatchOption};
 ghost use Rattle.scan_model.specs.Spliced.{shown, mark_len};
-ghost use Rattle.line_splice.specs.Plain.{shows_itself, BeginsPlain};
+ghost use Rattle.line_splice.specs.Plain.{shows_itself, newlines, BeginsPlain};
 ghost use Rattle.line_splice.specs.Rest.{at_splice, newline_len, IsEnd, Shows};
+
+use std::simd::prelude::*;
 
 // How many bytes the newline takes that the text begins with, or 0.
 fn newline_len(text: &[u8]) -> usize
@@ -46,11 +48,65 @@ fn shows_itself(byte: u8) -> bool
     !((byte == b'\\') | (byte == b'\r') | (byte == b'\n'))
 }
 
-// Whether the text begins with a byte that phase 2 leaves as it is, and no splice follows it.
+// Whether the text begins with a byte that phase 2 leaves as it is, and another one follows it that is no backslash.
 pub fn begins_plain(text: &[u8]) -> bool
-    ensures { IsTrue result → BeginsPlain text.now }
+    ensures { IsTrue result ↔ BeginsPlain text.now }
 {
     text.len() > 1 && shows_itself(text[0]) && text[1] != b'\\'
+}
+
+// How many of the next 32 bytes end a line.
+fn newlines_at(written: &[u8], place: usize) -> u32
+    requires { place + 32 ≤ length written.now }
+    ensures count { result ≡ newlines (take 32 (drop place written.now)) }
+    ensures few { result ≤ 32 }
+{
+    u8x32::from_slice(&written[place..])
+        .simd_eq(u8x32::splat(b'\n'))
+        .to_bitmask()
+        .count_ones()
+}
+
+// How many lines the bytes end, one by one.
+fn few_newlines(written: &[u8]) -> u32
+    requires { length written.now ≤ 33554432 }
+    ensures count { result ≡ newlines written.now }
+    ensures few { result ≤ length written.now }
+{
+    let mut count = 0;
+    for byte in written {
+        if *byte == b'\n' {
+            count += 1;
+        }
+    }
+    count
+}
+
+// How many lines the bytes end.
+pub fn newlines(written: &[u8]) -> u32
+    requires { length written.now ≤ 33554432 }
+    ensures count { result ≡ newlines written.now }
+    ensures few { result ≤ length written.now }
+{
+    let mut count = 0;
+    let mut passed = 0;
+    while passed + 32 <= written.len() {
+        count += newlines_at(written, passed);
+        passed += 32;
+    }
+    count + few_newlines(&written[passed..])
+}
+
+// Where the last of the bytes ends that phase 2 leaves as it is, or 0 where there is none.
+pub fn plain_end(written: &[u8]) -> usize
+    ensures within { result ≤ length written.now }
+    ensures plain { 0 < result → IsTrue (shows_itself (slice_index written.now (result - 1))) }
+{
+    let mut end = written.len();
+    while end > 0 && !shows_itself(written[end - 1]) {
+        end -= 1;
+    }
+    end
 }
 
 // The byte that shows first, how many bytes of the text it takes, and how many lines it ends. The byte that showed

@@ -52,5 +52,13 @@ fn bytes_that_show_as_written_are_passed_at_once(rt: HostRuntime) -> Result<(), 
     assert_eq!(rt; at.ahead(), b"c".as_slice());
     assert_eq!(rt; at.line(), 2);
     assert_eq!(rt; at.peek(), Some(b'c'));
+
+    let mut far = Cursor::new(b"a\\\n\r\nb\"\\\nc\n");
+    far.pass_to(7);
+    assert_eq!(rt; far.ahead(), b"c\n".as_slice());
+    assert_eq!(rt; far.line(), 4);
+    far.pass_to(11);
+    assert!(rt; far.is_end());
+    assert_eq!(rt; far.line(), 4);
     Ok(())
 }

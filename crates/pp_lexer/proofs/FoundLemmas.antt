@@ -15,11 +15,13 @@ use Rattle.scan_model.specs.Spliced.{Spot}
 use Rattle.scan_model.specs.Spelling.{is_header, opens_raw, longest}
 use Rattle.scan_model.specs.Tokens.{Lexeme, bytes, wants_header, is_open, lexeme, raw_lexeme}
 use Rattle.scan_model.proofs.LongestLemmas.{longest_le}
+use Rattle.pp_lexer.specs.declared.class.Passed.{Passed}
 use Rattle.pp_lexer.specs.declared.lexeme.Found.{Found}
 use Rattle.pp_lexer.specs.declared.lexeme.Spelling.TheVariants.{Shown}
+use Rattle.pp_lexer.specs.Classes.{told_kind, found_of}
 use Rattle.pp_lexer.specs.Lexemes.{is_raw, quote_of, IsQuoteAt, spelling_of, CanSpell, IsSpelled, GivesLexeme}
-use Rattle.pp_lexer.specs.Reads.{passed, IsAhead, GivesShown, not_raw, unquoted}
-use Rattle.pp_lexer.proofs.RuleLemmas.{NoHeader, header_rule, raw_rule, not_raw_rule, unquoted_closed}
+use Rattle.pp_lexer.specs.Reads.{passed, IsAhead, GivesShown, NoHeader, not_raw, unquoted}
+use Rattle.pp_lexer.proofs.RuleLemmas.{header_rule, raw_rule, not_raw_rule, unquoted_closed}
 use Rattle.pp_lexer.proofs.UnquotedLemmas.{line_ahead, shown_cut}
 
 -- ## What shows
@@ -71,19 +73,24 @@ none_at (Some quote) s e h = cc
 pub not_raw_unquoted : (spots : List Spot) (o : Option Quote) → o ≡ None → IsQuoteAt o (line spots) → not_raw spots ≡ unquoted spots
 not_raw_unquoted spots o e h = rw (none_at o (line spots) e h) refl
 
-pub raw_found : (text text1 : List ℕ) (before : List Tok) (s s1 after : List Spot) (o : Option Opening) (found : Found) → text1 ≡ text → s1 ≡ s → NoHeader before s
-    → IsOpening o (line s1) → is_raw o ≡ true → GivesLexeme text1 (raw_lexeme text1 s1) found s1 after → GivesLexeme text (lexeme text before s) found s after
-raw_found text text1 before s s1 after o found e f header opening raw given =
-    let here : GivesLexeme text (raw_lexeme text s) found s after =
-    subst (λ u. GivesLexeme text (raw_lexeme text u) found u after) f (subst (λ t. GivesLexeme t (raw_lexeme t s1) found s1 after) e given) in
-    raw_rule text before s header (raw_opens o (line s) (subst (λ u. IsOpening o (line u)) f opening) raw) ∙ here
+pub raw_found : (text : List ℕ) (before : List Tok) (s after : List Spot) (o : Option Opening) (found : Found) → NoHeader before s → IsOpening o (line s) → is_raw o ≡ true
+    → GivesLexeme text (raw_lexeme text s) found s after → GivesLexeme text (lexeme text before s) found s after
+raw_found text before s after o found header opening raw given = raw_rule text before s header (raw_opens o (line s) opening raw) ∙ given
 
-pub raw_spelled : (text text1 : List ℕ) (s s1 after : List Spot) (found : Found) → text1 ≡ text → s1 ≡ s → IsSpelled text1 found s1 after → IsSpelled text found s after
-raw_spelled text text1 s s1 after found e f h = subst (λ u. IsSpelled text found u after) f (subst (λ t. IsSpelled t found s1 after) e h)
+pub not_raw_found : (text : List ℕ) (before : List Tok) (s after : List Spot) (o : Option Opening) (kind : Kind) → NoHeader before s → IsOpening o (line s) → is_raw o ≡ false
+    → GivesShown (not_raw s) kind s after → GivesShown (lexeme text before s) kind s after
+not_raw_found text before s after o kind header opening raw given = not_raw_rule text before s header (quote_opens o (line s) opening raw).0 ∙ given
 
-pub not_raw_found : (text : List ℕ) (before : List Tok) (s s1 after : List Spot) (o : Option Opening) (kind : Kind) (found : Found) → s1 ≡ s → NoHeader before s
-    → IsOpening o (line s1) → is_raw o ≡ false → GivesShown (not_raw s1) kind s1 after → found.kind ≡ kind → found.spelling ≡ Shown → GivesLexeme text (lexeme text before s) found s after
-not_raw_found text before s s1 after o kind found f header opening raw given kind_is spelling_is =
-    let here : GivesShown (not_raw s) kind s after = subst (λ u. GivesShown (not_raw u) kind u after) f given in
-    let both = quote_opens o (line s) (subst (λ u. IsOpening o (line u)) f opening) raw in
-    shown_given text (lexeme text before s) found kind s after kind_is spelling_is (not_raw_rule text before s header both.0 ∙ here)
+-- ## Where the kind is told
+
+pub told : (text text1 : List ℕ) (before : List Tok) (s s1 after : List Spot) (p : Passed) (kind : Kind) → text1 ≡ text → s1 ≡ s → NoHeader before s
+    → (NoHeader before s1 → GivesLexeme text1 (lexeme text1 before s1) (found_of p s1 after) s1 after) → kind ≡ told_kind p.class s1 after
+    → GivesLexeme text (lexeme text before s) (record { kind = kind; spelling = p.spelling }) s after
+told text text1 before s s1 after p kind e f header given is =
+    let here : GivesLexeme text (lexeme text before s) (found_of p s1 after) s after =
+    subst (λ u. GivesLexeme text (lexeme text before u) (found_of p s1 after) u after) f
+    (subst (λ t. GivesLexeme t (lexeme t before s1) (found_of p s1 after) s1 after) e (given (subst (NoHeader before) (sym f) header))) in
+    here ∙ ap (λ k. record { kind = k; text = spelling_of text p.spelling s after; left = after }) (sym is)
+
+pub told_spelled : (text text1 : List ℕ) (s s1 after : List Spot) (p : Passed) → text1 ≡ text → s1 ≡ s → CanSpell text1 p.spelling s1 after → CanSpell text p.spelling s after
+told_spelled text text1 s s1 after p e f h = subst (λ u. CanSpell text p.spelling u after) f (subst (λ t. CanSpell t p.spelling s1 after) e h)

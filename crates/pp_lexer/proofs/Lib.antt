@@ -16,7 +16,6 @@ pub mod RawLemmas
 pub mod FoundLemmas
 pub mod WrittenLemmas
 pub mod PassingLemmas
-pub mod QuietLemmas
 pub mod BracketLemmas
-pub mod AloneLemmas
-pub mod DoubleLemmas
+pub mod LeftLemmas
+pub mod ReadLemmas

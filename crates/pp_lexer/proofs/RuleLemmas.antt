@@ -1,5 +1,5 @@
 -- The lexeme, by the first rule that applies.
-use Rattle.std.proofs.Common.{◌≡◌, ℕ, ◌<◌, ◌≤◌, Bool, true, false, ◌==◌, ◌&&◌, nat_lt, List, refl, ap, sym, ◌∙◌, inl, inr, drop, length, arith, Option, Some, None, is_none, is_some}
+use Rattle.std.proofs.Common.{◌≡◌, ℕ, ◌<◌, ◌≤◌, Bool, true, false, ◌==◌, List, refl, ap, sym, ◌∙◌, inl, inr, drop, length, arith, Option, Some, None, is_none, is_some}
 use Rattle.std.proofs.lemmas.Bool.{and_from, and_left, and_right, or_from, or_left, or_right, lt-ltb, false_from_ne_true, true≢false, OnTrue_at, OnFalse_at, cases_Bool}
 use Rattle.std.specs.Bool.{OnTrue, OnFalse}
 use Rattle.line_splice.specs.declared.cursor.Cursor.{Cursor}
@@ -14,7 +14,7 @@ use Rattle.scan_model.specs.Spliced.{Spot}
 use Rattle.scan_model.specs.Spelling.{first, is_header, is_quoted, opens, opens_raw, after_quoted, longest}
 use Rattle.scan_model.specs.Tokens.{cut, wants_header, is_open, is_lone_less, raw_lexeme, lexeme}
 use Rattle.scan_model.proofs.LongestLemmas.{longest_le}
-use Rattle.pp_lexer.specs.Reads.{IsAhead, GivesShown, unquoted, not_raw}
+use Rattle.pp_lexer.specs.Reads.{IsAhead, GivesShown, NoHeader, unquoted, not_raw}
 use Rattle.pp_lexer.specs.Lexemes.{literal_kind}
 use Rattle.pp_lexer.proofs.UnquotedLemmas.{lone_first, less_word, token_chosen, line_ahead, shown_cut}
 use Rattle.pp_lexer.proofs.QuoteLemmas.{single, double, opened_first, quoted_some, char_token, char_kind, str_token, str_kind}
@@ -23,10 +23,6 @@ pub header_rule : (text : List ℕ) (before : List Tok) (spots : List Spot) → 
     → lexeme text before spots ≡ cut Header (longest is_header (line spots)) spots
 unfolding lexeme
 header_rule text before spots wants some = rw (wants, lt-ltb 0 (longest is_header (line spots)) some) refl
-
--- no header name is wanted, or none stands here
-abbrev pub NoHeader : List Tok → List Spot → Type 0
-NoHeader before spots = (wants_header before && nat_lt 0 (longest is_header (line spots))) ≡ false
 
 pub raw_rule : (text : List ℕ) (before : List Tok) (spots : List Spot) → NoHeader before spots → opens_raw (line spots) ≡ true → lexeme text before spots ≡ raw_lexeme text spots
 unfolding lexeme

@@ -15,6 +15,8 @@ use Rattle.scan_model.specs.Spelling.{first, is_start, is_name, is_number, is_al
 use Rattle.scan_model.specs.Tokens.{Lexeme, bytes, cut, is_token, kind_of, is_lone_less, is_character}
 use Rattle.scan_model.proofs.RestLemmas.{take-rest_of_line}
 use Rattle.scan_model.proofs.LongestLemmas.{longest_le, longest_passes}
+use Rattle.pp_lexer.specs.declared.class.Class.TheVariants.{Name}
+use Rattle.pp_lexer.specs.Classes.{told_kind}
 use Rattle.pp_lexer.specs.Reads.{passed, IsAhead, GivesShown, mark_len, unquoted}
 use Rattle.pp_lexer.proofs.PlaceLemmas.{line_is_within}
 use Rattle.pp_lexer.proofs.MarkLemmas.{line_le}
@@ -83,6 +85,17 @@ name_chosen spots u some =
     let s = line spots in
     token_chosen spots (longest is_name s) _
     (no_lone s (front_name s (longest is_name s) (longest_passes is_name s some) some)) (name_token s u some) some (name_kind s some)
+
+-- as the class of a name gives it
+pub name_given : (at : Cursor) (new : List Spot) → Unquoted (line (rest at)) → 0 < length (line (rest at)) → 0 < longest is_name (line (rest at)) → new ≡ drop (longest is_name (line (rest at))) (rest at)
+    → GivesShown (unquoted (rest at)) (told_kind Name (rest at) new) (rest at) new
+name_given at new u some named left =
+    let spots = rest at in
+    let n = longest is_name (line spots) in
+    let le = longest_le is_name (line spots) in
+    let same : bytes (passed spots new) ≡ take n (line spots) = ap bytes (line_ahead at n new some le left).1 ∙ line_bytes spots n le in
+    shown_cut at n new (unquoted spots) (told_kind Name spots new) some le left
+    (name_chosen spots u named ∙ ap (λ s. cut (cond (is_alternative s) Punct Ident) n spots) (sym same))
 
 pub number_chosen : (spots : List Spot) → Unquoted (line spots) → longest is_name (line spots) ≡ 0 → 0 < longest is_number (line spots)
     → unquoted spots ≡ cut Number (longest is_number (line spots)) spots

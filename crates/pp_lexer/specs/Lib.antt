@@ -1,3 +1,4 @@
 pub mod Reads
 pub mod Lexemes
 pub mod Brackets
+pub mod Classes

@@ -1,11 +1,10 @@
 -- How what the lexer's functions return stands to the definitions.
 use lib.Pointwise.{pointwise}
-use Rattle.std.specs.Prelude.{◌≡◌, nat_eq, if◌then◌else◌, nat_lt, nat_le, slice_index, ◌-◌, take, drop, length, ℕ, Bool, true, false, not, ◌&&◌, ◌||◌, ◌==◌, List, [], ◌∷◌, Option, Some, None}
+use Rattle.std.specs.Prelude.{◌≡◌, nat_eq, if◌then◌else◌, nat_lt, ◌-◌, take, drop, length, ℕ, Bool, true, false, ◌&&◌, ◌||◌, ◌==◌, List, [], ◌∷◌, Option, Some, None}
 use Rattle.scan_model.specs.declared.token.Kind.{Kind}
 use Rattle.scan_model.specs.declared.token.Kind.TheVariants.{Punct, Stray}
 use Rattle.scan_model.specs.declared.token.Tok.{Tok}
-use Rattle.std.specs.Char.{is_ascii_digit, is_ascii_alphabetic}
-use Rattle.scan_model.specs.Spelling.{is_name, is_number, opens, opens_raw, is_one_of, punctuators, longest}
+use Rattle.scan_model.specs.Spelling.{is_one_of, is_header, punctuators, longest}
 use Rattle.scan_model.specs.Spliced.{Spot}
 use Rattle.scan_model.specs.Tokens.{Lexeme, bytes, cut, after_blanks, is_token, kind_of, is_open, is_lone_less, next_token, wants_header}
 use Rattle.scan_model.specs.Lines.{tok}
@@ -54,6 +53,10 @@ IsAhead before after = (after ≡ [] → before ≡ []) × (after ≡ drop (leng
 abbrev pub GivesShown : Lexeme → Kind → List Spot → List Spot → Type 0
 GivesShown l kind before after = l ≡ record { kind = kind; text = bytes (passed before after); left = after }
 
+-- after these tokens no header name is read here
+abbrev pub NoHeader : List Tok → List Spot → Type 0
+NoHeader before spots = (wants_header before && nat_lt 0 (longest is_header (line spots))) ≡ false
+
 -- the token that stands here where no header name is wanted and no quote opens
 abbrev pub unquoted : List Spot → Lexeme
 unquoted spots =
@@ -67,35 +70,6 @@ unquoted spots =
 abbrev pub not_raw : List Spot → Lexeme
 not_raw spots = if is_open (line spots) then cut Stray (length (line spots)) spots else unquoted spots
 
--- a byte with which neither a name, a number nor a literal begins: of ASCII, no letter, digit, `_`, `$`, `.`, `'` or `"`
-abbrev pub is_quiet : ℕ → Bool
-is_quiet c = nat_lt c 128 && not ((is_ascii_alphabetic c || c == 95 || c == 36) || (is_ascii_digit c || c == 46) || c == 39 || c == 34)
-
--- so none of them stands at the front of a line
-pub record StandsQuiet (s : List ℕ) : Type 0 where
-  pub single : opens 39 s ≡ false
-  pub double : opens 34 s ≡ false
-  pub raw : opens_raw s ≡ false
-  pub names : longest is_name s ≡ 0
-  pub numbers : longest is_number s ≡ 0
-
--- a byte that is a token by itself, whatever follows: a bracket, `;`, `,`, `?`, `~`, or one that no token but a stray one has
-abbrev pub is_alone : ℕ → Bool
-is_alone c = nat_lt c 128
-    && ((c == 123 || c == 125 || c == 91 || c == 93 || c == 40 || c == 41) || (c == 59 || c == 44 || c == 63 || c == 126) || (nat_lt c 32 || c == 64 || c == 96 || c == 92 || c == 127))
-
--- a punctuator that only a byte of `lengthens` makes a longer one: `!`, `%`, `*`, `^`
-abbrev pub may_lengthen : ℕ → Bool
-may_lengthen c = nat_lt c 128 && (c == 33 || c == 37 || c == 42 || c == 94)
-
--- `=`, `>` or `:`
-abbrev pub lengthens : ℕ → Bool
-lengthens c = c == 61 || c == 62 || c == 58
-
--- two of this byte are a punctuator
-abbrev pub doubles : ℕ → Bool
-doubles c = nat_lt c 128 && ((c == 43 || c == 45 || c == 61 || c == 58) || (c == 38 || c == 124 || c == 35) || (c == 60 || c == 62))
-
--- two of such a byte come first, and no `=` next, which makes some others longer
-abbrev pub begins_double : List ℕ → Bool
-begins_double s = nat_le 3 (length s) && (doubles (slice_index s 0) && slice_index s 1 == slice_index s 0 && not (slice_index s 2 == 61 && not (slice_index s 0 == 61)))
+-- a space or a tab, which most white space is
+abbrev pub is_space : ℕ → Bool
+is_space c = c == 32 || c == 9

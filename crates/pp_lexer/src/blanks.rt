@@ -1,9 +1,12 @@
-ghost use Rattle.std.specs.Prelude.{◌≡◌, [], ◌∷◌, Some, None, IsFalse, length, nat_lt, if◌then◌else◌};
+ghost use Rattle.std.specs.Prelude.{◌≡◌, ◌≤◌, [], ◌∷◌, Some, None, IsTrue, IsFalse, take, length, nat_lt, if◌then◌else◌};
+ghost use Rattle.std.specs.List.{list_all};
 ghost use Rattle.line_splice.specs.Cursor.{text_of, rest};
+ghost use Rattle.lexeme_reader.specs.Passes.{PassesRun};
 ghost use Rattle.scan_model.specs.Spelling.{is_blank};
 ghost use Rattle.scan_model.specs.Tokens.{begins, first_is_blank, from_newline, after_comment, next_blank, after_blanks};
+ghost use Rattle.pp_lexer.specs.Reads.{is_space};
 
-use lexeme_reader::pass_until;
+use lexeme_reader::pass_over;
 use line_splice::Cursor;
 
 fn is_blank(byte: u8) -> bool
@@ -57,7 +60,7 @@ fn pass_line(at: &mut Cursor<'_>)
             break;
         }
         at.advance();
-        pass_until(at, b'\n');
+        pass_over(at, b'\n');
     }
 }
 
@@ -73,7 +76,7 @@ fn pass_comment(at: &mut Cursor<'_>)
             break;
         }
         at.advance();
-        pass_until(at, b'*');
+        pass_over(at, b'*');
     }
 }
 
@@ -99,6 +102,34 @@ fn pass_blank(at: &mut Cursor<'_>) -> bool
     }
 }
 
+fn is_space(byte: u8) -> bool
+    ensures { result ≡ is_space byte }
+{
+    (byte == b' ') | (byte == b'\t')
+}
+
+// How many spaces and tabs the text begins with.
+fn spaces_len(written: &[u8]) -> usize
+    ensures within { result ≤ length written.now }
+    ensures all { IsTrue (list_all is_space (take result written.now)) }
+{
+    for i in 0..written.len() {
+        if !is_space(written[i]) {
+            return i;
+        }
+    }
+    written.len()
+}
+
+// Passes the spaces and tabs that come next, at once.
+fn pass_spaces(at: &mut Cursor<'_>)
+    ensures text { text_of at.new ≡ text_of at.old }
+    ensures run { PassesRun is_space (rest at.old) (rest at.new) }
+{
+    let count = spaces_len(at.ahead());
+    at.pass_plain(count);
+}
+
 /// Passes the white space, other than newlines, and the comments that stand here ([lex.comment]). The answer says
 /// whether there were any. No memory is taken.
 pub fn pass_blanks(at: &mut Cursor<'_>) -> bool
@@ -108,6 +139,7 @@ pub fn pass_blanks(at: &mut Cursor<'_>) -> bool
 {
     let mut passed = false;
     'blanks: while pass_blank(at) {
+        pass_spaces(at);
         passed = true;
     }
     passed

@@ -5,9 +5,11 @@ ghost use Rattle.lexeme_reader.specs.Quotes.{quote_byte, other_quote};
 ghost use Rattle.scan_model.specs.declared.token.Tok.{Tok};
 ghost use Rattle.scan_model.specs.Spelling.{is_header, opens, opens_raw, longest};
 ghost use Rattle.scan_model.specs.Tokens.{wants_header, raw_lexeme, lexeme};
-ghost use Rattle.pp_lexer.specs.Reads.{GivesShown, IsAhead, not_raw};
+ghost use Rattle.pp_lexer.specs.Classes.{told_kind, found_of, HasPassed};
+ghost use Rattle.pp_lexer.specs.Reads.{GivesShown, IsAhead, NoHeader, not_raw};
 ghost use Rattle.pp_lexer.specs.Lexemes.{literal_kind, is_raw, quote_of, IsQuoteAt, IsSpelled, GivesLexeme};
 
+use crate::class::{Class, Passed, told_kind};
 use crate::unquoted::pass_unquoted;
 use lexeme_reader::{
     Opening, Quote, RawParts, RawSpelling, literal_at, pass_header, pass_quoted, pass_raw,
@@ -95,15 +97,15 @@ fn quote_of(opening: Option<Opening>) -> Option<Quote>
 }
 
 // Passes the token that stands here where no raw string opens, but a literal in these quotes, or none.
-fn pass_not_raw(at: &mut Cursor<'_>, quote: Option<Quote>) -> Kind
+fn pass_not_raw(at: &mut Cursor<'_>, quote: Option<Quote>) -> Class
     requires some { 0 < length (line (rest at.old)) }
     requires quote { IsQuoteAt quote (line (rest at.old)) }
     ensures text { text_of at.new ≡ text_of at.old }
     ensures ahead { IsAhead (rest at.old) (rest at.new) }
-    ensures lexeme { GivesShown (not_raw (rest at.old)) result (rest at.old) (rest at.new) }
+    ensures lexeme { GivesShown (not_raw (rest at.old)) (told_kind result (rest at.old) (rest at.new)) (rest at.old) (rest at.new) }
 {
     match quote {
-        Some(quote) => pass_literal(at, quote),
+        Some(quote) => Class::Of(pass_literal(at, quote)),
         None => pass_unquoted(at),
     }
 }
@@ -125,6 +127,29 @@ fn pass_raw_string<'a>(at: &mut Cursor<'a>) -> Found<'a>
     }
 }
 
+// Passes the token that stands here on a line on which no header name is tried.
+pub fn pass_any<'a>(at: &mut Cursor<'a>) -> Passed<'a>
+    requires { 0 < length (line (rest at.old)) }
+    ensures text { text_of at.new ≡ text_of at.old }
+    ensures passed { HasPassed result.class (rest at.old) (rest at.new) }
+    ensures spelling { IsSpelled (text_of at.old) (found_of result (rest at.old) (rest at.new)) (rest at.old) (rest at.new) }
+    ensures lexeme { (before : List Tok) → NoHeader before (rest at.old)
+        → GivesLexeme (text_of at.old) (lexeme (text_of at.old) before (rest at.old)) (found_of result (rest at.old) (rest at.new)) (rest at.old) (rest at.new) }
+{
+    let opening = literal_at(at);
+    if is_raw(opening) {
+        let found = pass_raw_string(at);
+        return Passed {
+            class: Class::Of(found.kind),
+            spelling: found.spelling,
+        };
+    }
+    Passed {
+        class: pass_not_raw(at, quote_of(opening)),
+        spelling: Spelling::Shown,
+    }
+}
+
 /// Passes the token that stands here after tokens that want a header name next, or don't ([lex.pptoken]). No memory is
 /// taken.
 pub fn pass_lexeme<'a>(at: &mut Cursor<'a>, wants: bool) -> Found<'a>
@@ -137,10 +162,10 @@ pub fn pass_lexeme<'a>(at: &mut Cursor<'a>, wants: bool) -> Found<'a>
     if pass_wanted_header(at, wants) {
         return shown(Kind::Header);
     }
-    let opening = literal_at(at);
-    if is_raw(opening) {
-        return pass_raw_string(at);
+    let from = *at;
+    let passed = pass_any(at);
+    Found {
+        kind: told_kind(passed.class, &from, at),
+        spelling: passed.spelling,
     }
-    let kind = pass_not_raw(at, quote_of(opening));
-    shown(kind)
 }

@@ -2,9 +2,8 @@
 //! ([cpp.concat]).
 #![tactic(auto)]
 
-mod alone;
 mod blanks;
-mod doubles;
+mod class;
 mod header_names;
 mod lexeme;
 mod logical_lines;

@@ -2,7 +2,7 @@ ghost use Rattle.std.specs.Prelude.{◌≡◌, ◌≤◌, ◌++◌, [], ◌∷�
 ghost use Rattle.line_splice.specs.Cursor.{text_of, rest};
 ghost use Rattle.scan_model.specs.Lines.{lines, closed};
 
-use crate::tokens::token;
+use crate::tokens::next_token;
 use line_splice::Cursor;
 use scan_model::{Items, Line, NoMemory, Tok};
 use std::alloc::Global;
@@ -16,8 +16,9 @@ pub fn lines(alloc: Global, text: &[u8]) -> Result<Items<Line>, NoMemory>
     let mut at = Cursor::new(text);
     let mut out = Items::new(alloc);
     let mut toks = Items::new(alloc);
+    let mut bare_to = 0;
     'lines: while !at.is_end() {
-        match token(alloc, text, &mut at, toks.as_slice())? {
+        match next_token(alloc, text, &mut at, toks.as_slice(), &mut bare_to)? {
             Some(tok) => push(&mut toks, tok)?,
             None => {
                 end_line(&mut out, toks, at.line())?;

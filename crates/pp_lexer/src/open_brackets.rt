@@ -1,4 +1,4 @@
-ghost use Rattle.std.specs.Prelude.{◌≡◌, ◌<◌, Some, IsTrue, IsFalse, IfSome, List, length};
+ghost use Rattle.std.specs.Prelude.{◌≡◌, ◌↔◌, ◌<◌, Some, IsTrue, IsFalse, IfSome, List, length};
 ghost use Rattle.line_splice.specs.Cursor.{text_of, rest};
 ghost use Rattle.lexeme_reader.specs.Fronts.{line};
 ghost use Rattle.scan_model.specs.declared.token.Tok.{Tok};
@@ -12,7 +12,7 @@ use crate::lexeme::{Found, pass_lexeme};
 use line_splice::Cursor;
 
 fn opens_bracket(at: &Cursor<'_>) -> bool
-    ensures { IsTrue result → byte_at (rest at.now) ≡ Some 60 }
+    ensures { IsTrue result ↔ (byte_at (rest at.now) ≡ Some 60) }
 {
     match at.peek() {
         Some(byte) => byte == b'<',

@@ -233,6 +233,12 @@ fn header_names(rt: HostRuntime) -> Result<(), Fail> {
     reads(
         &rt,
         alloc,
+        b"#if __has_include(<a)+__has_include(<b\n#include <c>",
+        b"1-2 P#|Iif I__has_include|P(|P<|Ia|P)|P+|I__has_include|P(|P<|Ib\n2-3 P#|Iinclude H<c>\n",
+    )?;
+    reads(
+        &rt,
+        alloc,
         b"#include u8\"x\"",
         b"1-2 P#|Iinclude Su8\"x\"\n",
     )

@@ -1,11 +1,12 @@
-ghost use Rattle.std.specs.Prelude.{◌≡◌, ◌<◌, nat_lt, length, IfOk, OnErr};
+ghost use Rattle.std.specs.Prelude.{◌≡◌, ◌<◌, nat_lt, length, IfOk, OnOk, OnErr};
 ghost use Rattle.line_splice.specs.Cursor.{text_of, rest};
 ghost use Rattle.lexeme_reader.specs.Fronts.{line};
+ghost use Rattle.pp_lexer.specs.Brackets.{IsBare};
 ghost use Rattle.pp_lexer.specs.Reads.{GivesToken, is_nil, line_here};
 
 use crate::blanks::pass_blanks;
 use crate::header_names::wants_header;
-use crate::lexeme::pass_lexeme;
+use crate::open_brackets::pass_next_lexeme;
 use crate::spelled::spelled;
 use line_splice::Cursor;
 use scan_model::{Bytes, NoMemory, Tok};
@@ -56,6 +57,26 @@ pub fn token(
     ensures token { IfOk result (λ t. GivesToken text.now before.now (rest at.old) t (rest at.new)) }
     ensures err { OnErr result (rest at.new ≡ rest at.old) }
 {
+    let mut bare_to = 0;
+    next_token(alloc, text, at, before, &mut bare_to)
+}
+
+// The same, for a caller that asks for the tokens of a text one after another: up to the place `bare_to`, which begins
+// as 0, no `>` closes a header name, so that it is looked for once and not for each `<`.
+pub fn next_token(
+    alloc: Global,
+    text: &[u8],
+    at: &mut Cursor<'_>,
+    before: &[Tok],
+    bare_to: &mut usize,
+) -> Result<Option<Tok>, NoMemory>
+    requires text { text_of at.old ≡ text.now }
+    requires bare { IsBare bare_to.old text.now (rest at.old) }
+    ensures text { text_of at.new ≡ text_of at.old }
+    ensures token { IfOk result (λ t. GivesToken text.now before.now (rest at.old) t (rest at.new)) }
+    ensures err { OnErr result (rest at.new ≡ rest at.old) }
+    ensures bare { OnOk result (IsBare bare_to.new text.now (rest at.new)) }
+{
     let mut next = *at;
     let space = pass_blanks(&mut next) | is_nil(before);
     if !is_on_line(&next) {
@@ -64,7 +85,7 @@ pub fn token(
     }
     let line = line_here(before, next.line());
     let from = next;
-    let found = pass_lexeme(&mut next, wants_header(before));
+    let found = pass_next_lexeme(&mut next, wants_header(before), bare_to);
     let spelling = spelled(alloc, text, &from, found, &next)?;
     *at = next;
     Ok(Some(Tok {

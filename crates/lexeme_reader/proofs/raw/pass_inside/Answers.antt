@@ -12,6 +12,6 @@ returns-in-Some-clause-raw c = let a = c.args.at.now in let text = text_of a in 
       begins = refl;
       fits = (c.in-Some.ensures.0, within, c.pass_to.ensures.text);
       left = c.pass_name.ensures.rest;
-      lexeme = λ front. closed_raw text front start stop (rest a) (rest c.pass_to.new.at) (rest c.pass_name.new.at) c.in-Some.ensures.0 within found c.pass_to.ensures.rest
-          (suffix_is (rest c.pass_to.new.at) (rest c.pass_name.new.at) c.pass_name.ensures.rest c.pass_name.ensures.whole) c.pass_name.ensures.rest;
+      lexeme = λ front. closed_raw text front start stop (rest a) (rest c.pass_to.new.self) (rest c.pass_name.new.at) c.in-Some.ensures.0 within found c.pass_to.ensures.rest
+          (suffix_is (rest c.pass_to.new.self) (rest c.pass_name.new.at) c.pass_name.ensures.rest c.pass_name.ensures.whole) c.pass_name.ensures.rest;
     }

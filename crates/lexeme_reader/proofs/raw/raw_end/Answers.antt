@@ -1,7 +1,12 @@
-use Rattle.std.proofs.Common.{◌≡◌, ◌+◌, ◌-◌, ◌∙◌, ap, take, drop, length, length-drop, Some, arith}
+use Rattle.std.proofs.Common.{◌≡◌, ℕ, length-take, ◌+◌, ◌-◌, ◌∙◌, ap, take, drop, length, length-drop, Some, arith}
 use Rattle.std.proofs.lemmas.List.{drop-drop, take_rest}
+use Rattle.lexeme_reader.proofs.DelimiterLemmas.{delimiter_short}
 use Rattle.lexeme_reader.proofs.RawStringLemmas.{raw_after}
 use Rattle.lexeme_reader.proofs.raw.raw_end.Goals as goal
+
+pub close-requires : goal.close-requires
+close-requires c = let n = c.args.len in
+    omega (arith, delimiter_short (drop c.args.start c.args.text.now) n c.requires.delimiter, length-take {A = ℕ})
 
 pub returns-in-Some : goal.returns-in-Some
 returns-in-Some c = let t = c.args.text.now in let a = c.args.start in let n = c.args.len in

@@ -6,7 +6,7 @@ use Rattle.scan_model.specs.declared.token.Tok.{Tok}
 use Rattle.scan_model.specs.Spliced.{Spot}
 use Rattle.scan_model.specs.Spelling.{is_header, longest}
 use Rattle.scan_model.specs.Tokens.{wants_header, lexeme}
-use Rattle.pp_lexer.proofs.FoundLemmas.{WantedHeader, header_ahead, header_given, shown_spelled, shown_given, raw_found, not_raw_found}
+use Rattle.pp_lexer.proofs.FoundLemmas.{WantedHeader, header_ahead, header_given, shown_spelled, shown_given, told, told_spelled}
 use Rattle.pp_lexer.proofs.lexeme.pass_lexeme.Goals as goal
 
 -- whether a header name stands here that is wanted, of the tokens before
@@ -31,19 +31,16 @@ returns-then-pass_wanted_header-clause-lexeme c before wants =
     } in
     shown_given (text_of at) (lexeme (text_of at) before (rest at)) c.shown.result Header (rest at) new c.shown.ensures.kind c.shown.ensures.spelling (header_given (text_of at) at before new w)
 
-pub returns-then-is_raw-clause-lexeme : goal.returns-then-is_raw-clause-lexeme
-returns-then-is_raw-clause-lexeme c before wants =
-    let at = c.args.at.now in
-    raw_found (text_of at) (text_of c.pass_wanted_header.new.at) before (rest at) (rest c.pass_wanted_header.new.at) (rest c.pass_raw_string.new.at) c.literal_at-opening.result c.pass_raw_string.result
-    c.pass_wanted_header.ensures.text (c.pass_wanted_header.ensures.none c.if-pass_wanted_header.false)
-    (tested before c.args.wants c.pass_wanted_header.result (rest at) wants c.pass_wanted_header.ensures.value ∙ c.if-pass_wanted_header.false)
-    c.literal_at-opening.ensures (sym c.is_raw.ensures ∙ c.if-is_raw.true) c.pass_raw_string.ensures.lexeme
-
 pub returns-clause-lexeme : goal.returns-clause-lexeme
 returns-clause-lexeme c before wants =
     let at = c.args.at.now in
-    not_raw_found (text_of at) before (rest at) (rest c.pass_wanted_header.new.at) (rest c.pass_not_raw-kind.new.at) c.literal_at-opening.result c.pass_not_raw-kind.result c.shown-2.result
-    (c.pass_wanted_header.ensures.none c.if-pass_wanted_header.false)
+    told (text_of at) (text_of c.pass_wanted_header.new.at) before (rest at) (rest c.pass_wanted_header.new.at) (rest c.pass_any-passed.new.at) c.pass_any-passed.result c.told_kind.result
+    c.pass_wanted_header.ensures.text (c.pass_wanted_header.ensures.none c.if-pass_wanted_header.false)
     (tested before c.args.wants c.pass_wanted_header.result (rest at) wants c.pass_wanted_header.ensures.value ∙ c.if-pass_wanted_header.false)
-    c.literal_at-opening.ensures (sym c.is_raw.ensures ∙ c.if-is_raw.false) c.pass_not_raw-kind.ensures.lexeme
-    c.shown-2.ensures.kind c.shown-2.ensures.spelling
+    (c.pass_any-passed.ensures.lexeme before) c.told_kind.ensures
+
+pub returns-clause-spelling : goal.returns-clause-spelling
+returns-clause-spelling c =
+    let at = c.args.at.now in
+    told_spelled (text_of at) (text_of c.pass_wanted_header.new.at) (rest at) (rest c.pass_wanted_header.new.at) (rest c.pass_any-passed.new.at) c.pass_any-passed.result
+    c.pass_wanted_header.ensures.text (c.pass_wanted_header.ensures.none c.if-pass_wanted_header.false) c.pass_any-passed.ensures.spelling

@@ -1,30 +1,22 @@
-use Rattle.std.proofs.Common.{◌∙◌, ap, sym}
 use Rattle.line_splice.specs.Cursor.{rest}
 use Rattle.lexeme_reader.specs.Fronts.{line}
 use Rattle.scan_model.specs.declared.token.Kind.TheVariants.{Number}
 use Rattle.scan_model.specs.Spelling.{is_name, is_number, longest}
-use Rattle.scan_model.specs.Tokens.{cut}
 use Rattle.scan_model.proofs.LongestLemmas.{longest_le}
 use Rattle.pp_lexer.specs.Reads.{unquoted}
 use Rattle.pp_lexer.proofs.ChoiceLemmas.{Unquoted}
-use Rattle.pp_lexer.proofs.UnquotedLemmas.{line_ahead, shown_cut, name_chosen, number_chosen, tested_some, tested_none}
+use Rattle.pp_lexer.proofs.UnquotedLemmas.{line_ahead, shown_cut, name_given, number_chosen, tested_some, tested_none}
 use Rattle.pp_lexer.proofs.unquoted.pass_unquoted.Goals as goal
-
-pub pass_word-requires : goal.pass_word-requires
-pass_word-requires c = tested_some _ c.begins_name.result c.begins_name.ensures c.if-begins_name.true
 
 pub returns-then-begins_name-clause-ahead : goal.returns-then-begins_name-clause-ahead
 returns-then-begins_name-clause-ahead c = let s = line (rest c.args.at.now) in
-    (line_ahead c.args.at.now (longest is_name s) (rest c.pass_word.new.at) c.requires.some (longest_le is_name s) c.pass_word.ensures.rest).0
+    (line_ahead c.args.at.now (longest is_name s) (rest c.pass_name.new.at) c.requires.some (longest_le is_name s) c.pass_name.ensures.rest).0
 
 pub returns-then-begins_name-clause-lexeme : goal.returns-then-begins_name-clause-lexeme
 returns-then-begins_name-clause-lexeme c =
-    let spots = rest c.args.at.now in
-    let s = line spots in
-    let u : Unquoted s = record { single = c.requires.single; double = c.requires.double } in
-    let some = tested_some (longest is_name s) c.begins_name.result c.begins_name.ensures c.if-begins_name.true in
-    shown_cut c.args.at.now (longest is_name s) (rest c.pass_word.new.at) (unquoted spots) c.pass_word.result c.requires.some (longest_le is_name s) c.pass_word.ensures.rest
-    (name_chosen spots u some ∙ ap (λ k. cut k (longest is_name s) spots) (sym c.pass_word.ensures.kind))
+    let u : Unquoted (line (rest c.args.at.now)) = record { single = c.requires.single; double = c.requires.double } in
+    let some = tested_some (longest is_name (line (rest c.args.at.now))) c.begins_name.result c.begins_name.ensures c.if-begins_name.true in
+    name_given c.args.at.now (rest c.pass_name.new.at) u c.requires.some some c.pass_name.ensures.rest
 
 pub returns-then-begins_number-clause-ahead : goal.returns-then-begins_number-clause-ahead
 returns-then-begins_number-clause-ahead c = let s = line (rest c.args.at.now) in
