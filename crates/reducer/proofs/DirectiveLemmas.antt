@@ -1,10 +1,8 @@
 -- What the word after a line's `#` asks for, by its number in the table of words.
-use Rattle.std.proofs.Common.{◌≡◌, ℕ, Bool, true, false, cond, ◌||◌, if◌then◌else◌, nat_eq, slice_get, List, [], ◌∷◌, refl, ap, sym, ◌∙◌, subst, inl, inr, codes, Option, Some, None}
-use Prim.Native.String.{String}
-use lib.Pointwise.{pointwise}
+use Rattle.std.proofs.Common.{◌≡◌, ℕ, Bool, true, false, cond, ◌||◌, if◌then◌else◌, slice_get, List, [], ◌∷◌, refl, ap, sym, ◌∙◌, subst, inl, inr, Option, Some, None}
 use Rattle.std.specs.Option.{option_map}
 use Rattle.std.specs.List.{find}
-use Rattle.std.proofs.lemmas.Bool.{cases_Bool, cond_both}
+use Rattle.std.proofs.lemmas.Bool.{cases_Bool}
 use Rattle.std.specs.Cmp.Lexicographic.{bytes_decides}
 use Rattle.scan_model.specs.declared.command.Dialect.{Dialect}
 use Rattle.scan_model.specs.declared.command.Dialect.TheVariants.{Cxx20, Cxx23}
@@ -17,8 +15,8 @@ use Rattle.scan_model.specs.TokenTests.{is_of}
 use Rattle.scan_model.specs.Directives.{directive_of}
 use Rattle.scan_model.specs.Skips.{directive_in}
 use Rattle.reducer.specs.Directives.{begins_with_sharp}
-use Rattle.word_table.specs.Rows.{Entry, entry, has_word, value_of}
-use Rattle.word_table.specs.Tables.{directive_words, row}
+use Rattle.word_table.specs.Rows.{Entry, has_word, value_of}
+use Rattle.word_table.specs.Tables.{directive_words}
 use Rattle.reducer.specs.DirectiveWords.{numbered, directive_numbered, in_dialect}
 
 -- ## The dialect

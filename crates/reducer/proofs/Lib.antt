@@ -1,7 +1,6 @@
 pub mod TextLemmas
 pub mod ReducedLemmas
 pub mod SpotLemmas
-pub mod LeftLemmas
 pub mod OrderLemmas
 pub mod TokenLemmas
 pub mod KeptLemmas
@@ -14,7 +13,7 @@ pub mod DirectiveLemmas
 pub mod FlatLemmas
 pub mod OpenLemmas
 pub mod PlaceLemmas
-pub mod ReadLemmas
+pub mod RunLemmas
 pub mod SkipLemmas
 pub mod TableLemmas
 pub mod DefinitionLemmas

@@ -10,9 +10,9 @@ use Rattle.scan_model.specs.Spliced.{Spot, line_at, spliced}
 use Rattle.scan_model.specs.Tokens.{Lexeme, after_blanks, next_token}
 use Rattle.scan_model.specs.Lines.{tok, closed, lines_up_to, lines_from, lines, is_directive, kept}
 use Rattle.scan_model.proofs.BlankLemmas.{EndOf, end_after_blanks}
+use Rattle.pp_lexer.proofs.LeftLemmas.{next_end, next_end_whole, next_some, EndsLine, next_ends_line}
 use Rattle.reducer.specs.ReducedLines.{AreOrdered}
 use Rattle.reducer.proofs.SpotLemmas.{Fits, Fits-drop, spliced_fits, spliced_from_one, last_line-spliced}
-use Rattle.reducer.proofs.LeftLemmas.{next_end, next_end_whole, next_some, EndsLine, next_ends_line}
 
 -- ## The line of what is left
 

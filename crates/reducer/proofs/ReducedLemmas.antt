@@ -9,7 +9,8 @@ use Rattle.scan_model.specs.declared.token.Line.{Line}
 use Rattle.reducer.specs.declared.flat.TokRecord.{TokRecord}
 use Rattle.reducer.specs.declared.flat.LineRecord.{LineRecord}
 use Rattle.reducer.specs.FlatLines.{tok_of, line_of, lines_of}
-use Rattle.reducer.specs.ReducedLines.{AreOrdered, HasUtf8Name, AreReduced, toks_of}
+use Rattle.scan_model.specs.Utf8Names.{HasUtf8Name}
+use Rattle.reducer.specs.ReducedLines.{AreOrdered, AreReduced, toks_of}
 
 -- each line takes a number
 pub length-ordered : (from : ℕ) (lines : List Line) → from ≤ 33554434 → AreOrdered from lines → from + length lines ≤ 33554434

@@ -1,7 +1,6 @@
 -- The spellings of a text's tokens are together no longer than what is read of the text.
-use Rattle.std.proofs.Common.{◌≡◌, ℕ, zero, suc, ◌+◌, ◌-◌, ◌<◌, ◌≤◌, Bool, true, false, cond, ◌&&◌, ◌==◌, nat_lt, if◌then◌else◌, List, [], ◌∷◌, ◌++◌, refl, ap, sym, ◌∙◌, subst, map, take, drop, length, length-append, length-drop, length-take, max, arith, Option, Some, None}
+use Rattle.std.proofs.Common.{◌≡◌, ℕ, zero, suc, ◌+◌, ◌-◌, ◌<◌, ◌≤◌, Bool, true, false, cond, ◌&&◌, ◌==◌, nat_lt, if◌then◌else◌, List, [], ◌∷◌, ◌++◌, ap, sym, ◌∙◌, subst, take, drop, length, length-append, length-drop, length-take, max, arith, Option, Some, None}
 use Rattle.std.proofs.lemmas.Bool.{cond_both, ltb-false}
-use Rattle.std.proofs.lemmas.List.{drop-drop, length-take-le}
 use Rattle.std.proofs.lemmas.List.{length-map}
 use Rattle.scan_model.specs.declared.token.Kind.{Kind}
 use Rattle.scan_model.specs.declared.token.Kind.TheVariants.{Stray, Punct, Header}
@@ -9,16 +8,17 @@ use Rattle.scan_model.specs.declared.token.Tok.{Tok}
 use Rattle.scan_model.specs.Spliced.{Spot, at_newline, is_hidden, shown}
 use Rattle.scan_model.specs.Spelling.{opens_raw, encoding_len, is_delimited, after_raw, longest, is_header, is_suffix}
 use Rattle.scan_model.specs.Tokens.{Lexeme, is_token, is_character, kind_of, bytes, after_blanks, cut, wants_header, is_open, is_lone_less, rest_of_line, from_place, raw_closed, raw_lexeme, written_after, lexeme, token_at, next_token}
+use Rattle.scan_model.proofs.LexemeCases.{lexeme_cases, stray_len}
 use Rattle.scan_model.proofs.BlankLemmas.{EndOf, end_after_blanks}
 use Rattle.scan_model.proofs.LineLemmas.{if_some, next_takes}
 use Rattle.line_splice.specs.declared.cursor.Cursor.{Cursor}
 use Rattle.line_splice.specs.Cursor.{text_of, rest}
 use Rattle.pp_lexer.specs.Reads.{PassesToken}
+use Rattle.pp_lexer.proofs.LeftLemmas.{next_end, next_end_whole}
 use Rattle.reducer.specs.declared.flat.TokRecord.{TokRecord}
 use Rattle.reducer.specs.declared.open_lines.OpenLines.{OpenLines}
 use Rattle.reducer.specs.Building.{HasRoom}
 use Rattle.reducer.specs.Placed.{place_in, IsFurther, TakesBytes}
-use Rattle.reducer.proofs.LeftLemmas.{next_end, next_end_whole}
 use Rattle.reducer.proofs.KeptLemmas.{same_token}
 use Rattle.reducer.proofs.PassLemmas.{wants_header-nil}
 
@@ -133,26 +133,12 @@ raw_fits text s h =
     (λ e. cut_fits (length text) Stray (length (rest_of_line (bytes s))) s h)
 
 lexeme_fits : (text : List ℕ) (before : List Tok) (s : List Spot) → ArePlaced (length text) s → Fits (length text) s (lexeme text before s)
-unfolding lexeme
 lexeme_fits text before s h =
     let most = length text in
     let b = rest_of_line (bytes s) in
-    let header = longest is_header b in
     let n = longest is_token b in
-    let unclosed = cut Stray (length b) s in
-    let token = cut (kind_of (take n b)) n s in
-    let character = longest is_character b in
-    let one = if nat_lt 0 character then character else 1 in
-    let stray = cut Stray one s in
-    let from_token = cond (nat_lt 0 n) token stray in
-    let from_less = cond (is_lone_less b) (cut Punct 1 s) from_token in
-    let from_open = cond (is_open b) unclosed from_less in
-    let from_raw = cond (opens_raw b) (raw_lexeme text s) from_open in
-    cond_both (wants_header before && nat_lt 0 header) (cut Header header s) from_raw (Fits most s) (λ e. cut_fits most Header header s h)
-    (λ e. cond_both (opens_raw b) (raw_lexeme text s) from_open (Fits most s) (λ e. raw_fits text s h)
-    (λ e. cond_both (is_open b) unclosed from_less (Fits most s) (λ e. cut_fits most Stray (length b) s h)
-    (λ e. cond_both (is_lone_less b) (cut Punct 1 s) from_token (Fits most s) (λ e. cut_fits most Punct 1 s h)
-    (λ e. cond_both (nat_lt 0 n) token stray (Fits most s) (λ e. cut_fits most (kind_of (take n b)) n s h) (λ e. cut_fits most Stray one s h)))))
+    lexeme_cases text before s (Fits most s) (λ e. cut_fits most Header (longest is_header b) s h) (λ e. raw_fits text s h) (λ e. cut_fits most Stray (length b) s h)
+    (λ e. cut_fits most Punct 1 s h) (λ e. cut_fits most (kind_of (take n b)) n s h) (cut_fits most Stray (stray_len b) s h)
 
 token_fits : (text : List ℕ) (before : List Tok) (s : List Spot) (l : Lexeme) → ArePlaced (length text) s → token_at text before s ≡ Some l → Fits (length text) s l
 token_fits text before [] l h e = cc

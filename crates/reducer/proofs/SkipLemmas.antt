@@ -1,5 +1,5 @@
 -- How the search over a line's later lines goes on past a conditional.
-use Rattle.std.proofs.Common.{◌≡◌, ◌≢◌, inl, inr, ℕ, zero, suc, ◌+◌, ◌<◌, ◌≤◌, Bool, true, false, ◌==◌, if◌then◌else◌, List, [], ◌∷◌, ◌++◌, All, map, refl, ap, sym, ◌∙◌, subst, drop, length, get_or, slice_get, Some, length-drop, add-one, arith}
+use Rattle.std.proofs.Common.{◌≡◌, ◌≢◌, inl, inr, ℕ, suc, ◌+◌, ◌<◌, ◌≤◌, Bool, true, false, ◌==◌, if◌then◌else◌, List, [], ◌∷◌, ◌++◌, All, map, refl, ap, sym, ◌∙◌, subst, drop, length, get_or, slice_get, Some, length-drop, add-one, arith}
 use Rattle.std.proofs.lemmas.Bool.{ne_eqb, eq-eqb, eqb-true, cases_Bool, both_ways}
 use Rattle.std.proofs.lemmas.List.{drop_all, drop-map, get_or-set_same, get_or-set_other}
 use Rattle.std.proofs.Math.ListN.{set, length-set}

@@ -20,7 +20,7 @@ use Rattle.scan_model.proofs.LongestLemmas.{longest_le}
 use Rattle.scan_model.proofs.RestLemmas.{take-rest_of_line}
 use Rattle.scan_model.proofs.BlankLemmas.{length-after_blanks}
 use Rattle.scan_model.proofs.LineLemmas.{next_takes}
-use Rattle.reducer.specs.ReducedLines.{HasUtf8Name}
+use Rattle.scan_model.specs.Utf8Names.{HasUtf8Name}
 use Rattle.reducer.proofs.SpotLemmas.{length-spliced}
 
 -- it is no identifier, or its text is well-formed

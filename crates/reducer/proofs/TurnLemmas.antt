@@ -1,5 +1,5 @@
 -- One turn of the loops over a text and over a line that may be kept.
-use Rattle.std.proofs.Common.{◌≡◌, ℕ, ◌<◌, ◌≤◌, Bool, true, List, [], ◌∷◌, ◌++◌, refl, ap, sym, ◌∙◌, subst, append-nil, drop, length, arith, Some, None}
+use Rattle.std.proofs.Common.{◌≡◌, ℕ, ◌<◌, ◌≤◌, Bool, true, List, [], ◌∷◌, ◌++◌, refl, ap, sym, ◌∙◌, subst, inl, append-nil, drop, length, arith, Some, None}
 use Rattle.std.proofs.lemmas.List.{append_assoc}
 use Rattle.std.specs.List.{filter}
 use Rattle.scan_model.specs.declared.token.Tok.{Tok}
@@ -47,7 +47,7 @@ line_turn text lines more before start s left at last so_far h line_is add next 
 pub dropped_turn : (text text' : List ℕ) (lines : List Line) (toks : List Tok) (start left at : List Spot) → text' ≡ text → kept_from text [] start ≡ kept_from text toks left → IsPassed text' left at
     → is_text toks ≡ true → lines ++ kept_from text [] at ≡ lines ++ kept_from text [] start
 dropped_turn text text' lines toks start left at same so_far passed is =
-    let passed' = subst (λ t. IsPassed t left at) same passed toks is in
+    let passed' = subst (λ t. IsPassed t left at) same passed toks (inl is) in
     ap (λ u. lines ++ u) (sym passed' ∙ sym so_far)
 
 pub whole_start : (text : List ℕ) (lines : List Line) (s : List Spot) → lines ≡ [] → s ≡ spliced text → lines ++ kept_from text [] s ≡ kept text

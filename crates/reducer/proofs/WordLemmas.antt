@@ -11,6 +11,7 @@ use Rattle.scan_model.specs.Spliced.{Spot}
 use Rattle.scan_model.specs.Spelling.{opens_raw, encoding_len, is_delimited, after_raw, longest, is_header, is_suffix, spells}
 use Rattle.scan_model.specs.Tokens.{from_place, Lexeme, begins, is_token, is_character, kind_of, bytes, after_blanks, cut, wants_header, is_open, is_lone_less, rest_of_line, raw_closed, raw_lexeme, written_after, lexeme, token_at, next_token}
 use Rattle.scan_model.specs.Lines.{tok}
+use Rattle.scan_model.proofs.LexemeCases.{lexeme_cases, stray_len}
 use Rattle.scan_model.proofs.RestLemmas.{rest_of_line-cons}
 use Rattle.scan_model.proofs.LineLemmas.{if_some}
 use Rattle.reducer.specs.Directives.{is_text, may_begin_directive, begins_text}
@@ -95,26 +96,12 @@ raw_shows text c word x s other lf raw h =
 
 lexeme_shows : (text : List ℕ) (before : List Tok) (c : ℕ) (word : List ℕ) (x : Spot) (s : List Spot) → is_prefix_byte c ≡ false → (x.byte == 10) ≡ false
     → Shows (c ∷ word) (x ∷ s) (lexeme text before (x ∷ s))
-unfolding lexeme
 lexeme_shows text before c word x s other lf =
     let b = rest_of_line (bytes (x ∷ s)) in
-    let header = longest is_header b in
     let n = longest is_token b in
-    let unclosed = cut Stray (length b) (x ∷ s) in
-    let token = cut (kind_of (take n b)) n (x ∷ s) in
-    let character = longest is_character b in
-    let one = if nat_lt 0 character then character else 1 in
-    let stray = cut Stray one (x ∷ s) in
-    let from_token = cond (nat_lt 0 n) token stray in
-    let from_less = cond (is_lone_less b) (cut Punct 1 (x ∷ s)) from_token in
-    let from_open = cond (is_open b) unclosed from_less in
-    let from_raw = cond (opens_raw b) (raw_lexeme text (x ∷ s)) from_open in
-    let P = Shows (c ∷ word) (x ∷ s) in
-    cond_both (wants_header before && nat_lt 0 header) (cut Header header (x ∷ s)) from_raw P (λ e. cut_shows Header header (c ∷ word) (x ∷ s))
-    (λ e. cond_both (opens_raw b) (raw_lexeme text (x ∷ s)) from_open P (λ raw. raw_shows text c word x s other lf raw)
-    (λ e. cond_both (is_open b) unclosed from_less P (λ e. cut_shows Stray (length b) (c ∷ word) (x ∷ s))
-    (λ e. cond_both (is_lone_less b) (cut Punct 1 (x ∷ s)) from_token P (λ e. cut_shows Punct 1 (c ∷ word) (x ∷ s))
-    (λ e. cond_both (nat_lt 0 n) token stray P (λ e. cut_shows (kind_of (take n b)) n (c ∷ word) (x ∷ s)) (λ e. cut_shows Stray one (c ∷ word) (x ∷ s))))))
+    lexeme_cases text before (x ∷ s) (Shows (c ∷ word) (x ∷ s)) (λ e. cut_shows Header (longest is_header b) (c ∷ word) (x ∷ s))
+    (λ raw. raw_shows text c word x s other lf raw) (λ e. cut_shows Stray (length b) (c ∷ word) (x ∷ s)) (λ e. cut_shows Punct 1 (c ∷ word) (x ∷ s))
+    (λ e. cut_shows (kind_of (take n b)) n (c ∷ word) (x ∷ s)) (cut_shows Stray (stray_len b) (c ∷ word) (x ∷ s))
 
 -- ## The first token of a line
 

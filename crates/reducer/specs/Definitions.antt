@@ -1,5 +1,5 @@
 -- What the `#define` lines of a reduced text define.
-use Rattle.std.specs.Prelude.{◌≡◌, ℕ, List, Option, Some, None, map, drop}
+use Rattle.std.specs.Prelude.{◌≡◌, ℕ, List, Option, None, map, drop}
 use Rattle.std.specs.Option.{option_map}
 use Rattle.std.specs.declared.alloc.Global.{Global}
 use Rattle.std.specs.declared.sync.Arc.{Arc}

@@ -1,12 +1,12 @@
 -- What the first tokens of a line tell of it ([cpp.pre]).
-use Rattle.std.specs.Prelude.{◌≡◌, ℕ, ◌-◌, Bool, true, false, not, ◌&&◌, ◌||◌, ◌==◌, List, [], ◌∷◌, take, drop, length, codes}
+use Rattle.std.specs.Prelude.{◌≡◌, ℕ, ◌-◌, Bool, true, false, not, ◌&&◌, ◌||◌, ◌⊎◌, ◌==◌, List, [], ◌∷◌, take, drop, length, codes}
 use Rattle.std.specs.List.{filter, list_any}
 use Rattle.scan_model.specs.declared.token.Kind.TheVariants.{Ident, Str, Header}
 use Rattle.scan_model.specs.declared.token.Tok.{Tok}
 use Rattle.scan_model.specs.declared.token.Line.{Line}
 use Rattle.scan_model.specs.Spliced.{Spot}
 use Rattle.scan_model.specs.Spelling.{spells, is_one_of}
-use Rattle.scan_model.specs.Tokens.{begins, are, are_directive}
+use Rattle.scan_model.specs.Tokens.{begins, after_blanks, are, are_directive}
 use Rattle.reducer.specs.TokenTests.{at_tok}
 use Rattle.scan_model.specs.Lines.{is_kind, begins_directive, is_directive, lines_from}
 
@@ -49,15 +49,23 @@ is_text ts = not (begins_directive ts) && not (may_begin ts)
 abbrev pub kept_from : List ℕ → List Tok → List Spot → List Line
 kept_from text before spots = filter is_directive (lines_from text before spots)
 
--- The line of which `s` is left is passed, and `left` follows it: after tokens that make no directive, nothing of it is kept.
-abbrev pub IsPassed : List ℕ → List Spot → List Spot → Type 0
-IsPassed text s left = (before : List Tok) → is_text before ≡ true → kept_from text before s ≡ kept_from text [] left
-
 -- a token with which a directive may begin stands here, or a longer one that begins with it
 abbrev pub may_begin_directive : List Spot → Bool
 may_begin_directive s = list_any (λ word. begins (codes word) s) ("#" ∷ "%:" ∷ "import" ∷ "module" ∷ "export" ∷ [])
+
+-- one of those tokens begins with the byte: `#`, `%`, `i`, `m` or `e`
+abbrev pub may_lead : ℕ → Bool
+may_lead c = c == 35 || c == 37 || c == 105 || c == 109 || c == 101
 
 -- a token stands here that tells at a line's front that the line is no directive
 abbrev pub begins_text : List Spot → Bool
 begins_text [] = false
 begins_text (spot ∷ spots) = not (spot.byte == 10) && not (may_begin_directive (spot ∷ spots))
+
+-- the line of which `s` is left is no directive: the tokens before tell it, or at its front the token that stands here
+abbrev pub IsDropped : List Tok → List Spot → Type 0
+IsDropped before s = (is_text before ≡ true) ⊎ ((before ≡ []) × (begins_text s ≡ true) × (after_blanks s ≡ s))
+
+-- The line of which `s` is left is passed, and `left` follows it: where it is no directive, nothing of it is kept.
+abbrev pub IsPassed : List ℕ → List Spot → List Spot → Type 0
+IsPassed text s left = (before : List Tok) → IsDropped before s → kept_from text before s ≡ kept_from text [] left

@@ -1,19 +1,14 @@
 -- What a reduced text keeps of its lines.
-use Rattle.std.specs.Prelude.{ℕ, ◌<◌, ◌≤◌, List, [], ◌∷◌, All, IsTrue, IsUtf8, length, slice_get}
+use Rattle.std.specs.Prelude.{ℕ, ◌<◌, ◌≤◌, List, [], ◌∷◌, All, length, slice_get}
 use Rattle.std.specs.Option.{option_map_or}
-use Rattle.scan_model.specs.declared.token.Kind.TheVariants.{Ident}
 use Rattle.scan_model.specs.declared.token.Tok.{Tok}
 use Rattle.scan_model.specs.declared.token.Line.{Line}
-use Rattle.scan_model.specs.TokenTests.{is_of}
+use Rattle.scan_model.specs.Utf8Names.{HasUtf8Name}
 
 -- the first line has at least the given number, and each further one at least the `next` of the line before
 abbrev pub AreOrdered : ℕ → List Line → Type 0
 AreOrdered from [] = Unit {0}
 AreOrdered from (l ∷ ls) = (from ≤ l.line) × (l.line < l.next) × (l.next ≤ 33554434) × AreOrdered l.next ls
-
--- an identifier's text is well-formed UTF-8
-abbrev pub HasUtf8Name : Tok → Type 0
-HasUtf8Name t = IsTrue (is_of Ident t) → IsUtf8 t.text
 
 -- what every reduced text keeps: the order of the numbers, the text of identifiers, and how many tokens a line has
 pub record AreReduced (lines : List Line) : Type 0 where

@@ -1,7 +1,7 @@
 ghost use Rattle.std.specs.Prelude.{◌≡◌};
 ghost use Rattle.line_splice.specs.Cursor.{rest};
 ghost use Rattle.scan_model.specs.Tokens.{begins};
-ghost use Rattle.reducer.specs.Directives.{may_begin_directive, begins_text};
+ghost use Rattle.reducer.specs.Directives.{may_lead, may_begin_directive, begins_text};
 
 use line_splice::Cursor;
 
@@ -35,12 +35,19 @@ fn may_begin_directive(at: &Cursor<'_>) -> bool
         || begins(at, b"export")
 }
 
+// Whether one of those tokens begins with the byte.
+fn may_lead(byte: u8) -> bool
+    ensures { result ≡ may_lead byte }
+{
+    (byte == b'#') | (byte == b'%') | (byte == b'i') | (byte == b'm') | (byte == b'e')
+}
+
 /// Whether a token stands here that tells at a line's front that the line is no directive.
 pub(crate) fn begins_text(at: &Cursor<'_>) -> bool
     ensures { result ≡ begins_text (rest at.now) }
 {
     match at.peek() {
-        Some(byte) => byte != b'\n' && !may_begin_directive(at),
+        Some(byte) => byte != b'\n' && !(may_lead(byte) && may_begin_directive(at)),
         None => false,
     }
 }

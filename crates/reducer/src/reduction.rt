@@ -13,20 +13,24 @@ use crate::directive_lines::{begins_directive, is_text};
 use crate::fronts::begins_text;
 use crate::header_wanted::wants_header;
 use crate::open_lines::OpenLines;
+use calm_runs::pass_run;
 use line_splice::Cursor;
 use pp_lexer::{is_on_line, pass_blanks, pass_next_lexeme, pass_token};
 use scan_model::NoMemory;
 use std::alloc::Global;
 
 // Goes on to the next line. No memory is taken for the tokens that are passed, which are those of a line that is no
-// directive.
+// directive, as the tokens before tell or the one that stands here; most of them are passed by whole runs.
 fn pass_line(at: &mut Cursor<'_>)
     ensures text { text_of at.new ≡ text_of at.old }
     ensures kept { IsPassed (text_of at.old) (rest at.old) (rest at.new) }
     ensures less { length (rest at.new) ≤ length (rest at.old) - 1 }
     ensures further { IsFurther (text_of at.old) (rest at.old) (rest at.new) }
 {
-    'tokens: while pass_token(at) {}
+    pass_run(at);
+    'tokens: while pass_token(at) {
+        pass_run(at);
+    }
     pass_newline(at);
 }
 
@@ -119,7 +123,6 @@ fn reduce_line(text: &[u8], at: &mut Cursor<'_>, lines: &mut OpenLines) -> Resul
 {
     pass_blanks(at);
     if begins_text(at) {
-        pass_token(at);
         pass_line(at);
         return Ok(());
     }

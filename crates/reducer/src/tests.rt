@@ -228,6 +228,12 @@ fn comments_and_splices_may_hold_newlines(rt: HostRuntime) -> Result<(), Fail> {
         b"// import a; \\\nimport b;\nimport c;\n",
         &[kept(3, 4, b"import|c|;")],
     )?;
+    reduces(
+        &rt,
+        alloc,
+        b"/* x *\\\n/\nimport a;\n",
+        &[kept(3, 4, b"import|a|;")],
+    )?;
     reduces(&rt, alloc, b"/* unclosed\nimport a;\n", &[])?;
     reduces(&rt, alloc, b"#def\\\nine X\n", &[kept(1, 3, b"#|define|X")])?;
     reduces(&rt, alloc, b"imp\\\nort a;\n", &[kept(1, 3, b"import|a|;")])?;
@@ -243,6 +249,41 @@ fn comments_and_splices_may_hold_newlines(rt: HostRuntime) -> Result<(), Fail> {
         alloc,
         b"\xEF\xBB\xBFimport a;\r\nimport b;\r\n",
         &[kept(1, 2, b"import|a|;"), kept(2, 3, b"import|b|;")],
+    )
+}
+
+#[test]
+fn runs_of_tokens_end_with_their_line(rt: HostRuntime) -> Result<(), Fail> {
+    let alloc = rt.alloc();
+    reduces(
+        &rt,
+        alloc,
+        b"0123456789abcdef\nimport a;\n",
+        &[kept(2, 3, b"import|a|;")],
+    )?;
+    reduces(
+        &rt,
+        alloc,
+        b"0123456789 abcd/*\n*/ x\nimport a;\n",
+        &[kept(3, 4, b"import|a|;")],
+    )?;
+    reduces(
+        &rt,
+        alloc,
+        b"f(x) + y;'\nimport a;\n",
+        &[kept(2, 3, b"import|a|;")],
+    )?;
+    reduces(
+        &rt,
+        alloc,
+        b"f(x); \\\n#define X\nimport a;\n",
+        &[kept(3, 4, b"import|a|;")],
+    )?;
+    reduces(
+        &rt,
+        alloc,
+        b"import a;\nf(x); y",
+        &[kept(1, 2, b"import|a|;")],
     )
 }
 
@@ -311,6 +352,12 @@ fn raw_strings_hold_newlines(rt: HostRuntime) -> Result<(), Fail> {
         alloc,
         b"R\"0123456789abcdefg(\n#if\n)0123456789abcdefg\"\n",
         &[kept(2, 3, b"#|if")],
+    )?;
+    reduces(
+        &rt,
+        alloc,
+        b"auto s = R\"ab()a\")ab\";\nimport a;\n",
+        &[kept(2, 3, b"import|a|;")],
     )?;
     reduces(&rt, alloc, b"R\"(\nimport a;", &[])?;
     reduces(

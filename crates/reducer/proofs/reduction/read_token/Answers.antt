@@ -6,9 +6,9 @@ use Rattle.pp_lexer.specs.Brackets.{IsBare}
 use Rattle.pp_lexer.specs.Lexemes.{spelling_of}
 use Rattle.pp_lexer.specs.Reads.{line_here}
 use Rattle.pp_lexer.proofs.TokenLemmas.{token_none, tok_is}
+use Rattle.pp_lexer.proofs.ReadLemmas.{token_read, bare_blanks, bare_left}
 use Rattle.reducer.specs.Building.{open_toks}
 use Rattle.reducer.proofs.RoomLemmas.{room_later, further_blanks, token_takes}
-use Rattle.reducer.proofs.ReadLemmas.{token_read, bare_blanks, bare_left}
 use Rattle.reducer.proofs.reduction.read_token.Goals as goal
 
 pub returns-then-not-is_on_line-clause-bare : goal.returns-then-not-is_on_line-clause-bare

@@ -1,8 +1,8 @@
 use Rattle.std.proofs.Common.{◌∙◌, sym, arith}
 use Rattle.line_splice.specs.Cursor.{text_of, rest}
 use Rattle.reducer.specs.Building.{kept_lines}
-use Rattle.reducer.proofs.PassLemmas.{blanks_kept, blanks_less, on_ok, passed_front, blanks_stop, first_smaller}
-use Rattle.reducer.proofs.RoomLemmas.{room_later, room_along, further_blanks, further_passed}
+use Rattle.reducer.proofs.PassLemmas.{blanks_kept, blanks_less, on_ok, front_passed, blanks_stop}
+use Rattle.reducer.proofs.RoomLemmas.{room_later, room_along, further_blanks}
 use Rattle.reducer.proofs.reduction.reduce_line.Goals as goal
 
 pub returns-then-begins_text-clause-kept : goal.returns-then-begins_text-clause-kept
@@ -10,18 +10,13 @@ returns-then-begins_text-clause-kept c =
     let at = rest c.pass_blanks.new.at in
     let text = c.args.text.now in
     blanks_kept text (kept_lines c.args.lines.now) _ (rest c.args.at.now) at c.pass_blanks.ensures.rest
-    (passed_front text c.pass_blanks.new.at.text.now c.pass_token.new.at.text.now (kept_lines c.args.lines.now) at (rest c.pass_token.new.at) (rest c.pass_line.new.at) c.pass_token.result
-    (c.pass_blanks.ensures.text ∙ c.requires.text) (c.pass_token.ensures.text ∙ c.pass_blanks.ensures.text ∙ c.requires.text)
-    (blanks_stop (rest c.args.at.now) at c.pass_blanks.ensures.rest) (sym c.begins_text.ensures ∙ c.if-begins_text.true) c.pass_token.ensures.passed c.pass_line.ensures.kept)
+    (front_passed text c.pass_blanks.new.at.text.now (kept_lines c.args.lines.now) at (rest c.pass_line.new.at) (c.pass_blanks.ensures.text ∙ c.requires.text)
+    (blanks_stop (rest c.args.at.now) at c.pass_blanks.ensures.rest) (sym c.begins_text.ensures ∙ c.if-begins_text.true) c.pass_line.ensures.kept)
 
 pub returns-then-begins_text-clause-less : goal.returns-then-begins_text-clause-less
 returns-then-begins_text-clause-less c =
-    let start = rest c.args.at.now in
-    let at = rest c.pass_blanks.new.at in
-    let less = first_smaller c.pass_blanks.new.at.text.now at (rest c.pass_token.new.at) c.pass_token.result (blanks_stop start at c.pass_blanks.ensures.rest)
-    (sym c.begins_text.ensures ∙ c.if-begins_text.true) c.pass_token.ensures.passed in
-    let blanks = blanks_less start at c.pass_blanks.ensures.rest in
-    omega (arith, less, blanks, c.pass_line.ensures.less)
+    let blanks = blanks_less (rest c.args.at.now) (rest c.pass_blanks.new.at) c.pass_blanks.ensures.rest in
+    omega (arith, blanks, c.pass_line.ensures.less)
 
 pub returns-clause-kept : goal.returns-clause-kept
 returns-clause-kept c =
@@ -39,8 +34,7 @@ returns-then-begins_text-clause-room c =
     let at = rest c.pass_blanks.new.at in
     let whole = c.pass_blanks.ensures.text ∙ c.requires.text in
     let here = room_later b text (rest c.args.at.now) at c.requires.room (further_blanks text c.args.at.now at c.requires.text c.pass_blanks.ensures.rest) in
-    let passed = room_later b text at (rest c.pass_token.new.at) here (further_passed text c.pass_blanks.new.at c.pass_token.result (rest c.pass_token.new.at) whole c.pass_token.ensures.passed) in
-    room_along b text (text_of c.pass_token.new.at) (rest c.pass_token.new.at) (rest c.pass_line.new.at) (c.pass_token.ensures.text ∙ whole) passed c.pass_line.ensures.further
+    room_along b text (text_of c.pass_blanks.new.at) at (rest c.pass_line.new.at) whole here c.pass_line.ensures.further
 
 pub read_line-requires-clause-room : goal.read_line-requires-clause-room
 read_line-requires-clause-room c =

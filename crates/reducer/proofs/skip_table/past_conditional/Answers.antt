@@ -1,6 +1,5 @@
-use Rattle.std.proofs.Common.{◌≡◌, ◌<◌, ◌+◌, ◌∙◌, ap, sym, refl, length, arith}
-use Rattle.scan_model.specs.declared.skip.Skip.TheVariants.{Partner}
-use Rattle.reducer.specs.SkipTable.{is_endif, is_else, seen_from, skip_among}
+use Rattle.std.proofs.Common.{◌+◌, ◌∙◌, ap, sym, refl, arith}
+use Rattle.reducer.specs.SkipTable.{is_endif, is_else, seen_from}
 use Rattle.reducer.proofs.SkipLemmas.{entry_is, directive_read, partner_after, in_group, at_endif, at_broken, at_next, at_ended}
 use Rattle.reducer.proofs.skip_table.past_conditional.Goals as goal
 

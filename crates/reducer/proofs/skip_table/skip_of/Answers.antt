@@ -1,5 +1,5 @@
 use Rattle.std.proofs.Common.{◌∙◌, ◌+◌, ◌<◌, ap, sym, refl, length, arith}
-use Rattle.reducer.specs.SkipTable.{opens, closes, seen_from}
+use Rattle.reducer.specs.SkipTable.{seen_from}
 use Rattle.reducer.proofs.SkipLemmas.{entry_is, directive_read, skip_last, skip_opens, skip_closes, skip_other}
 use Rattle.reducer.proofs.skip_table.skip_of.Goals as goal
 
