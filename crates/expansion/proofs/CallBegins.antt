@@ -198,7 +198,7 @@ module _ (m : Machine) (opened : Stack) (close : ℕ) (h : OpensAt m.todo opened
 
 -- ## A call begins
 
-module _ (m : Machine) (opened todo : Stack) (c : Call) (out : Vec Marked Global) (h : OpensAt m.todo opened c.close) (cut : AreCut (written_args c.definition.now) (length (names_of c.definition.now)) opened todo c.further)
+module _ (m : Machine) (opened todo : Stack) (c : Call) (out : Vec Marked Global) (h : OpensAt m.todo opened c.close) (cut : AreCut (written_args c.definition) (length (names_of c.definition)) opened todo c.further)
     (none : c.args.items ≡ []) (before : c.before.items ≡ m.out.items) (empty : out.items ≡ []) where
   inside_is : opened.first ≡ h.found.inside
   inside_is = ap (λ (s : Stack). s.first) h.stack
@@ -244,9 +244,9 @@ module _ (m : Machine) (opened todo : Stack) (c : Call) (out : Vec Marked Global
       omega (arith, whole, inside, cut.size, size_parts m opened c.close h, weight_of_lists-cons todo.first todo.others, weight_of_lists-cons h.found.after m.todo.others)
 
   pub call-begins : (e : expansion.Scope) → called_on e (record m { todo = todo; out = out }) c
-      ≡ continued e m (expansion.call (expands e) e c.definition.now (marked_of m.sets c.name) m.cost m.counter (in_parens (λ m. m.tok) (all_marked_of m.sets m.todo.first)))
+      ≡ continued e m (expansion.call (expands e) e c.definition (marked_of m.sets c.name) m.cost m.counter (in_parens (λ m. m.tok) (all_marked_of m.sets m.todo.first)))
   call-begins e =
-      let f = c.definition.now in
+      let f = c.definition in
       let name = marked_of m.sets c.name in
       let names : List (List ℕ) = names_of f in
       let lists : List (List Marked) = cut.args ++ h.found.after ∷ m.todo.others in

@@ -1,7 +1,6 @@
 -- What a call comes to, argument by argument.
 use Rattle.std.proofs.Common.{◌≡◌, sym, ◌∙◌, ap, subst, refl, ℕ, suc, ◌+◌, ◌-◌, ◌<◌, ◌≤◌, Bool, true, false, ◌&&◌, nat_lt, if◌then◌else◌, List, [], ◌∷◌, ◌++◌, map, reverse, take, drop, length, append_assoc, drop-cons, arith}
 use Rattle.std.specs.Prelude.{Option, Some, None, Vec, sum_by, All, slice_index_or}
-use Rattle.std.specs.Borrow.{Bor}
 use Rattle.std.specs.Option.{option_map}
 use Rattle.std.specs.declared.alloc.Global.{Global}
 use Rattle.scan_model.specs.declared.token.Tok.{Tok}
@@ -59,10 +58,10 @@ module _ (e : expansion.Scope) (sets : Sets) (c : Call) (list : List Marked) (li
   -- the call by its next argument
   next_first : ran_of_call e (call_of sets c (length c.args.items) (list ∷ lists)) cost counter
       ≡ call_ran e (call_of sets (one_less c) (suc (length c.args.items)) lists)
-      (args_of e c.definition.now (next_name c ∷ drop (suc (length c.args.items)) (names_of c.definition.now)) (all_marked_of sets list ∷ map (all_marked_of sets) (take (c.further - 1) lists)) cost counter)
+      (args_of e c.definition (next_name c ∷ drop (suc (length c.args.items)) (names_of c.definition)) (all_marked_of sets list ∷ map (all_marked_of sets) (take (c.further - 1) lists)) cost counter)
   next_first =
       let n = length c.args.items in
-      let f = c.definition.now in
+      let f = c.definition in
       let names : List (List ℕ) = names_of f in
       let args : List spec.Arg = map (arg_of sets) c.args.items in
       let ran : List (List ℕ) → ℕ → Ran = λ (ns : List (List ℕ)) (k : ℕ). outs (all_marked_of sets c.before.items)
@@ -72,17 +71,17 @@ module _ (e : expansion.Scope) (sets : Sets) (c : Call) (list : List Marked) (li
       ap (ran (drop n names)) more
       ∙ ap (λ (ns : List (List ℕ)). ran ns (suc (c.further - 1))) (drop-cons names n [] (omega (arith, known.fits, another)))
 
-  pub next-replaced : is_replaced c.definition.now (next_name c) ≡ true →
+  pub next-replaced : is_replaced c.definition (next_name c) ≡ true →
       ran_of_call e (call_of sets c (length c.args.items) (list ∷ lists)) cost counter
-      ≡ resumed e (record { call = call_of sets (one_less c) (suc (length c.args.items)) lists; written = kept_written c.definition.now (next_name c) (all_marked_of sets list) }) (expands e (all_marked_of sets list) cost counter)
-  next-replaced h = next_first ∙ ap (call_ran e (call_of sets (one_less c) (suc (length c.args.items)) lists)) (choose-replaced (is_replaced c.definition.now (next_name c)) _ _ h)
+      ≡ resumed e (record { call = call_of sets (one_less c) (suc (length c.args.items)) lists; written = kept_written c.definition (next_name c) (all_marked_of sets list) }) (expands e (all_marked_of sets list) cost counter)
+  next-replaced h = next_first ∙ ap (call_ran e (call_of sets (one_less c) (suc (length c.args.items)) lists)) (choose-replaced (is_replaced c.definition (next_name c)) _ _ h)
 
-  pub next-kept : is_replaced c.definition.now (next_name c) ≡ false →
+  pub next-kept : is_replaced c.definition (next_name c) ≡ false →
       ran_of_call e (call_of sets c (length c.args.items) (list ∷ lists)) cost counter
       ≡ call_ran e (call_of sets (one_less c) (suc (length c.args.items)) lists)
       (with_arg (expands e) e (record { written = all_marked_of sets list; replaced = all_marked_of sets list })
-      (args_of e c.definition.now (drop (suc (length c.args.items)) (names_of c.definition.now)) (map (all_marked_of sets) (take (c.further - 1) lists)) cost counter))
-  next-kept h = next_first ∙ ap (call_ran e (call_of sets (one_less c) (suc (length c.args.items)) lists)) (choose-kept (is_replaced c.definition.now (next_name c)) _ _ h)
+      (args_of e c.definition (drop (suc (length c.args.items)) (names_of c.definition)) (map (all_marked_of sets) (take (c.further - 1) lists)) cost counter))
+  next-kept h = next_first ∙ ap (call_ran e (call_of sets (one_less c) (suc (length c.args.items)) lists)) (choose-kept (is_replaced c.definition (next_name c)) _ _ h)
 
 -- ## An argument is done
 
@@ -93,11 +92,11 @@ module _ (sets : Sets) (old new : Call) (written : Vec Marked Global) (replaced 
   call_of-added : (lists : List (List Marked)) → call_of sets new (length new.args.items) lists
       ≡ record (call_of sets old (suc (length old.args.items)) lists) { args = map (arg_of sets) old.args.items ++ arg_of sets (record { written = written.items; replaced = option_map (λ v. v.items) replaced }) ∷ [] }
   call_of-added lists =
-      let definition : new.definition.now ≡ old.definition.now = ap (λ (d : Bor FunctionDef). d.now) added.definition in
+      let definition : new.definition ≡ old.definition = added.definition in
       let name = ap (marked_of sets) added.name in
       let close = ap (hides_of sets) added.close in
       let args = ap (map (arg_of sets)) added.args ∙ map-append (arg_of sets) old.args.items (record { written = written.items; replaced = option_map (λ v. v.items) replaced } ∷ []) in
-      let names = ap (λ (n : ℕ). drop n (names_of new.definition.now)) one_more ∙ ap (λ (f : FunctionDef). drop (suc (length old.args.items)) (names_of f)) definition in
+      let names = ap (λ (n : ℕ). drop n (names_of new.definition)) one_more ∙ ap (λ (f : FunctionDef). drop (suc (length old.args.items)) (names_of f)) definition in
       let further = ap (λ (k : ℕ). map (all_marked_of sets) (take k lists)) added.further in
       let before = ap (all_marked_of sets) added.before in
       let rest = ap (λ (k : ℕ). all_marked_of sets (slice_index_or lists k [])) added.further in
@@ -107,12 +106,12 @@ module _ (sets : Sets) (old new : Call) (written : Vec Marked Global) (replaced 
       ran_of_call e (call_of sets new (length new.args.items) lists) cost counter
       ≡ call_ran e (call_of sets old (suc (length old.args.items)) lists)
       (with_arg (expands e) e (arg_of sets (record { written = written.items; replaced = option_map (λ v. v.items) replaced }))
-      (args_of e old.definition.now (drop (suc (length old.args.items)) (names_of old.definition.now)) (map (all_marked_of sets) (take old.further lists)) cost counter))
+      (args_of e old.definition (drop (suc (length old.args.items)) (names_of old.definition)) (map (all_marked_of sets) (take old.further lists)) cost counter))
   ran_of_call-added e lists cost counter =
       ap (λ (c : meaning.Call). ran_of_call e c cost counter) (call_of-added lists)
-      ∙ ap (λ (r : Replaced). outs (all_marked_of sets old.before.items) (called (expands e) e old.definition.now (marked_of sets old.name) (hides_of sets old.close) (all_marked_of sets (slice_index_or lists old.further [])) r))
+      ∙ ap (λ (r : Replaced). outs (all_marked_of sets old.before.items) (called (expands e) e old.definition (marked_of sets old.name) (hides_of sets old.close) (all_marked_of sets (slice_index_or lists old.further [])) r))
       (with_args-push e (map (arg_of sets) old.args.items) (arg_of sets (record { written = written.items; replaced = option_map (λ v. v.items) replaced }))
-      (args_of e old.definition.now (drop (suc (length old.args.items)) (names_of old.definition.now)) (map (all_marked_of sets) (take old.further lists)) cost counter))
+      (args_of e old.definition (drop (suc (length old.args.items)) (names_of old.definition)) (map (all_marked_of sets) (take old.further lists)) cost counter))
 
   pub IsCall-added : IsCall sets old (suc (length old.args.items)) → IsArg sets (record { written = written.items; replaced = option_map (λ v. v.items) replaced }) → IsCall sets new (length new.args.items)
   IsCall-added h a = record {
@@ -121,7 +120,7 @@ module _ (sets : Sets) (old new : Call) (written : Vec Marked Global) (replaced 
     args = subst (λ (xs : List Arg). All (IsArg sets) xs) (sym added.args) (All-push (IsArg sets) old.args.items _ h.args a);
     before = subst (AreMarked sets) (sym added.before) h.before;
     fits =
-        let names : length (names_of new.definition.now) ≡ length (names_of old.definition.now) = ap (λ (d : Bor FunctionDef). length (names_of d.now)) added.definition in
+        let names : length (names_of new.definition) ≡ length (names_of old.definition) = ap (λ (d : FunctionDef). length (names_of d)) added.definition in
         omega (arith, h.fits, one_more, added.further, names);
   }
 
@@ -132,15 +131,15 @@ IsCall-begun sets c h another = record { name = h.name; close = h.close; args = 
 -- ## An argument begins
 
 pub begin-goes : (e : expansion.Scope) (m : Machine) (c : Call) (written : Vec Marked Global) (calls : Vec Pending Global) (out : Vec Marked Global) →
-    IsMachineBeside m c.further → IsCall m.sets c (length c.args.items) → 0 < c.further → is_replaced c.definition.now (next_name c) ≡ true →
-    written.items ≡ kept_written c.definition.now (next_name c) m.todo.first → calls.items ≡ m.calls.items ++ record { call = one_less c; written = written } ∷ [] → out.items ≡ [] →
+    IsMachineBeside m c.further → IsCall m.sets c (length c.args.items) → 0 < c.further → is_replaced c.definition (next_name c) ≡ true →
+    written.items ≡ kept_written c.definition (next_name c) m.todo.first → calls.items ≡ m.calls.items ++ record { call = one_less c; written = written } ∷ [] → out.items ≡ [] →
     GoesOn e (called_on e m c) (weight m + 1) (record m { calls = calls; out = out })
 begin-goes e m c written calls out valid call another replaced w cs o =
     let p : Pending = record { call = one_less c; written = written } in
     let counted : sum_by (λ p. suc p.call.further) calls.items ≡ sum_by (λ p. suc p.call.further) m.calls.items + suc (c.further - 1) =
     ap (sum_by (λ (p : Pending). suc p.call.further)) cs ∙ sum_by_push (λ (p : Pending). suc p.call.further) m.calls.items p in
     let begun = IsCall-begun m.sets c call another in
-    let kept = kept-known m.sets c.definition.now (next_name c) m.todo.first valid.first in
+    let kept = kept-known m.sets c.definition (next_name c) m.todo.first valid.first in
     record {
       valid = record {
         first = valid.first;
@@ -161,7 +160,7 @@ begin-goes e m c written calls out valid call another replaced w cs o =
           ∙ ap (λ (ms : List Marked). all_resumed e m.sets (p ∷ reverse m.calls.items) others (outs (all_marked_of m.sets ms) ran)) o
           ∙ ap (λ (r : Ran). all_resumed e m.sets (p ∷ reverse m.calls.items) others r) (outs-nil ran)
           ∙ ap (λ (ms : List Marked). all_resumed e m.sets (reverse m.calls.items) (drop (suc (c.further - 1)) others) (resumed e (record { call = call_of m.sets (one_less c) (suc (length c.args.items)) others; written = all_marked_of m.sets ms }) ran)) w
-          ∙ ap (λ (ms : List spec.Marked). all_resumed e m.sets (reverse m.calls.items) (drop (suc (c.further - 1)) others) (resumed e (record { call = call_of m.sets (one_less c) (suc (length c.args.items)) others; written = ms }) ran)) (kept-means m.sets c.definition.now (next_name c) m.todo.first)
+          ∙ ap (λ (ms : List spec.Marked). all_resumed e m.sets (reverse m.calls.items) (drop (suc (c.further - 1)) others) (resumed e (record { call = call_of m.sets (one_less c) (suc (length c.args.items)) others; written = ms }) ran)) (kept-means m.sets c.definition (next_name c) m.todo.first)
           ∙ ap (λ (r : Ran). all_resumed e m.sets (reverse m.calls.items) (drop (suc (c.further - 1)) others) r) (sym (next-replaced e m.sets c m.todo.first others m.cost m.counter call another replaced))
           ∙ ap (λ (k : ℕ). all_resumed e m.sets (reverse m.calls.items) (drop k others) (ran_of_call e (call_of m.sets c (length c.args.items) (m.todo.first ∷ others)) m.cost m.counter)) more;
     }
@@ -183,7 +182,7 @@ begin-goes e m c written calls out valid call another replaced w cs o =
 -- ## An argument is taken as it is written
 
 pub takes-arg : (m : Machine) (c c' : Call) (list : Vec Marked Global) (todo : Stack) →
-    IsMachineBeside m c.further → IsCall m.sets c (length c.args.items) → 0 < c.further → is_replaced c.definition.now (next_name c) ≡ false →
+    IsMachineBeside m c.further → IsCall m.sets c (length c.args.items) → 0 < c.further → is_replaced c.definition (next_name c) ≡ false →
     list.items ≡ m.todo.first → m.todo.others ≡ todo.first ∷ todo.others → AddsArg (one_less c) list None c' →
     TakesArg m c (record m { todo = todo }) c'
 takes-arg m c c' list todo valid call another kept l o added =
@@ -210,7 +209,7 @@ takes-arg m c c' list todo valid call another kept l o added =
           let around : List (List Marked) → Ran → Ran = all_resumed e m.sets (reverse m.calls.items) in
           let ran : List (List Marked) → List Marked → Ran = λ (ls : List (List Marked)) (ms : List Marked). call_ran e (call_of m.sets (one_less c) (suc (length c.args.items)) ls)
           (with_arg (expands e) e (record { written = all_marked_of m.sets ms; replaced = all_marked_of m.sets ms })
-          (args_of e c.definition.now (drop (suc (length c.args.items)) (names_of c.definition.now)) (map (all_marked_of m.sets) (take (c.further - 1) ls)) m.cost m.counter)) in
+          (args_of e c.definition (drop (suc (length c.args.items)) (names_of c.definition)) (map (all_marked_of m.sets) (take (c.further - 1) ls)) m.cost m.counter)) in
           ap (λ (k : ℕ). around (drop k todo.others) (ran_of_call e (call_of m.sets c' (length c'.args.items) (todo.first ∷ todo.others)) m.cost m.counter)) added.further
           ∙ ap (around (drop (c.further - 1) todo.others)) (ran_of_call-added m.sets (one_less c) c' list None added e (todo.first ∷ todo.others) m.cost m.counter)
           ∙ ap (λ (ms : List Marked). around (drop (c.further - 1) todo.others) (ran (todo.first ∷ todo.others) ms)) l
@@ -255,12 +254,12 @@ AreArgs-all sets n args all same h = subst (λ (xs : List Arg). All (IsArg sets)
     at false = h
 
 -- the definition's arguments are those that are done
-pub called_on-done : (e : expansion.Scope) (m : Machine) (c : Call) (all : List Arg) → c.further ≡ 0 → all ≡ filled empty_arg (length (names_of c.definition.now)) c.args.items →
+pub called_on-done : (e : expansion.Scope) (m : Machine) (c : Call) (all : List Arg) → c.further ≡ 0 → all ≡ filled empty_arg (length (names_of c.definition)) c.args.items →
     continued e (record m { out = c.before })
-    (called (expands e) e c.definition.now (marked_of m.sets c.name) (hides_of m.sets c.close) (all_marked_of m.sets m.todo.first) (Args (map (arg_of m.sets) all) m.cost m.counter))
+    (called (expands e) e c.definition (marked_of m.sets c.name) (hides_of m.sets c.close) (all_marked_of m.sets m.todo.first) (Args (map (arg_of m.sets) all) m.cost m.counter))
     ≡ called_on e m c
 called_on-done e m c all none same =
-    let f = c.definition.now in
+    let f = c.definition in
     let ran : Replaced → Ran = λ (r : Replaced). continued e (record m { out = c.before }) (called (expands e) e f (marked_of m.sets c.name) (hides_of m.sets c.close) (all_marked_of m.sets m.todo.first) r) in
     let at : ℕ → Ran = λ (k : ℕ). all_resumed e m.sets (reverse m.calls.items) (drop k m.todo.others) (outs (all_marked_of m.sets c.before.items)
     (called (expands e) e f (marked_of m.sets c.name) (hides_of m.sets c.close) (all_marked_of m.sets (slice_index_or (m.todo.first ∷ m.todo.others) k []))

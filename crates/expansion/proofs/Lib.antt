@@ -7,3 +7,4 @@ pub mod CallBegins
 pub mod StepLemmas
 pub mod DefinedLemmas
 pub mod StartLemmas
+pub mod StraightLemmas

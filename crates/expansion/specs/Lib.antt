@@ -2,3 +2,4 @@ pub mod Lists
 pub mod Meaning
 pub mod States
 pub mod Cuts
+pub mod Straight

@@ -31,17 +31,17 @@ names_of f = all_params f.params f.variadic
 
 -- the parameter of the call's next argument
 abbrev pub next_name : Call → List ℕ
-next_name c = slice_index_or (names_of c.definition.now) (length c.args.items) []
+next_name c = slice_index_or (names_of c.definition) (length c.args.items) []
 
 -- the call, of which this many arguments are done or under way; those that follow come first of these lists, and then
 -- what follows the `)`
 abbrev pub call_of : Sets → Call → ℕ → List (List Marked) → meaning.Call
 call_of sets c begun lists = record {
-  definition = c.definition.now;
+  definition = c.definition;
   name = marked_of sets c.name;
   close = hides_of sets c.close;
   args = map (arg_of sets) c.args.items;
-  names = drop begun (names_of c.definition.now);
+  names = drop begun (names_of c.definition);
   further = map (all_marked_of sets) (take c.further lists);
   before = all_marked_of sets c.before.items;
   rest = all_marked_of sets (slice_index_or lists c.further []);
@@ -57,7 +57,7 @@ pub record IsCall (sets : Sets) (c : Call) (begun : ℕ) : Type 0 where
   pub close : IsSet sets c.close
   pub args : All (IsArg sets) c.args.items
   pub before : AreMarked sets c.before.items
-  pub fits : begun + c.further ≤ length (names_of c.definition.now)
+  pub fits : begun + c.further ≤ length (names_of c.definition)
 
 pub record IsPending (sets : Sets) (p : Pending) : Type 0 where
   pub call : IsCall sets p.call (suc (length p.call.args.items))

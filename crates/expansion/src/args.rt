@@ -1,4 +1,4 @@
-ghost use Rattle.std.specs.Prelude.{◌≡◌, ◌+◌, ◌<◌, [], IfOk, length, slice_index_or};
+ghost use Rattle.std.specs.Prelude.{◌≡◌, ◌+◌, ◌<◌, IfOk, length};
 ghost use Rattle.scan_model.specs.Expansion.{plain_args, variadic_args};
 ghost use Rattle.expansion.specs.Cuts.{CutsInto, CutsArgs, empty_arg, filled};
 ghost use Rattle.expansion.specs.States.{names_of};
@@ -6,7 +6,7 @@ ghost use Rattle.expansion.specs.States.{names_of};
 use list_stack::ListStack;
 use scan_model::{FunctionDef, Items, NoMemory};
 use std::alloc::Global;
-use substitution::Arg;
+use substitution::{Arg, IndexedDef};
 
 /// Cuts the list at work, which a call's parentheses enclose, into the call's arguments ([cpp.replace]). The answer is
 /// how many there are; a variable part whose comma is missing isn't counted. None where their number is wrong, and then
@@ -63,38 +63,16 @@ fn cut_variadic(todo: &mut ListStack, count: usize) -> Result<Option<usize>, NoM
     Ok(Some(found))
 }
 
-/// The name of the parameter at a place; the variable part's is the last.
-pub(crate) fn parameter(definition: &FunctionDef, place: usize) -> &[u8]
-    requires { place < length (names_of definition.now) }
-    ensures { result.now ≡ slice_index_or (names_of definition.now) place [] }
-{
-    let params = definition.params.as_slice();
-    match &definition.variadic {
-        Some(name) if place == params.len() => name.as_slice(),
-        _ => params[place].as_slice(),
-    }
-}
-
-fn parameter_count(definition: &FunctionDef) -> usize
-    ensures { result ≡ length (names_of definition.now) }
-{
-    let count = definition.params.as_slice().len();
-    match definition.variadic {
-        Some(_) => count + 1,
-        None => count,
-    }
-}
-
 /// The arguments, with one of no tokens for a variable part whose comma is missing.
 pub(crate) fn all_args(
     alloc: Global,
-    definition: &FunctionDef,
+    definition: &IndexedDef,
     args: Vec<Arg>,
 ) -> Result<Vec<Arg>, NoMemory>
     ensures { IfOk result (λ all. all.items ≡ filled empty_arg (length (names_of definition.now)) args.items) }
 {
     let mut args = args;
-    if args.len() < parameter_count(definition) {
+    if args.len() < definition.parameter_count() {
         args.push(Arg {
             written: Items::of_vec(Vec::new(alloc)),
             replaced: None,

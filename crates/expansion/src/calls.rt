@@ -8,12 +8,12 @@ ghost use Rattle.expansion_laws.specs.Turns.{expands};
 ghost use Rattle.expansion.specs.Meaning.{kept_written};
 ghost use Rattle.expansion.specs.States.{AddsArg, IsCall, IsMachine, IsMachineBeside, TakesArg, Turns, called_on, continued, next_name, weight};
 
-use crate::args::{all_args, cut_args, parameter};
+use crate::args::{all_args, cut_args};
 use crate::machine::{Call, Machine, Pending, Turn};
 use scan_model::{Expanded, FunctionDef, Items, NoMemory, Tok};
 use std::alloc::Global;
 use std::mem;
-use substitution::{Arg, Marked, is_replaced, is_taken_as_written, substitute_function};
+use substitution::{Arg, IndexedDef, Marked, substitute_function};
 
 impl<'a> Machine<'a> {
     /// The name of a function-like macro and a `(` are a call, which is replaced.
@@ -32,9 +32,10 @@ impl<'a> Machine<'a> {
         let Some(further) = cut_args(&mut self.todo, definition)? else {
             return Ok(Turn::Ends(Expanded::Bad));
         };
+        let indexed = IndexedDef::new(self.alloc, definition)?;
         let before = mem::replace(&mut self.out, Vec::new(self.alloc));
         self.next_arg(Call {
-            definition,
+            definition: indexed,
             name,
             close,
             args: Vec::new(self.alloc),
@@ -68,8 +69,8 @@ impl<'a> Machine<'a> {
     {
         let mut call = call;
         'further: while call.further > 0 {
-            let name = parameter(call.definition, call.args.len());
-            if is_replaced(call.definition, name) {
+            let name = call.definition.parameter(call.args.len());
+            if call.definition.is_replaced(name) {
                 return self.begin(call, name);
             }
             call = self.take_arg(call)?;
@@ -83,11 +84,11 @@ impl<'a> Machine<'a> {
         requires call { IsCall self.old.sets call (length call.args.items) }
         requires another { 0 < call.further }
         requires name { name.now ≡ next_name call }
-        requires replaced { is_replaced call.definition.now name.now ≡ true }
+        requires replaced { is_replaced call.definition name.now ≡ true }
         ensures { IfOk result (λ turn. (e : expansion.Scope) → Turns e (called_on e self.old call.entry) (weight self.old + 1) self.new turn) }
     {
         let mut call = call;
-        let written = self.kept_written(call.definition, name)?;
+        let written = self.kept_written(&call.definition, name)?;
         call.further -= 1;
         self.calls.push(Pending { call, written })?;
         self.out = Vec::new(self.alloc);
@@ -95,10 +96,10 @@ impl<'a> Machine<'a> {
     }
 
     /// What a replacement may take of the list at work as it is written, where it is the argument for this parameter.
-    fn kept_written(&self, definition: &FunctionDef, name: &[u8]) -> Result<Vec<Marked>, NoMemory>
+    fn kept_written(&self, definition: &IndexedDef, name: &[u8]) -> Result<Vec<Marked>, NoMemory>
         ensures { IfOk result (λ kept. kept.items ≡ kept_written definition.now name.now self.now.todo.first) }
     {
-        if is_taken_as_written(definition, name) {
+        if definition.is_taken_as_written(name) {
             self.todo.copy_list(self.alloc)
         } else {
             Ok(Vec::new(self.alloc))
@@ -110,7 +111,7 @@ impl<'a> Machine<'a> {
         requires valid { IsMachineBeside self.old call.further }
         requires call { IsCall self.old.sets call (length call.args.items) }
         requires another { 0 < call.further }
-        requires kept { is_replaced call.definition.now (next_name call) ≡ false }
+        requires kept { is_replaced call.definition (next_name call) ≡ false }
         ensures { IfOk result (TakesArg self.old call.entry self.new) }
     {
         let mut call = call;
@@ -134,12 +135,12 @@ impl<'a> Machine<'a> {
             further: _,
             before,
         } = call;
-        let args = all_args(self.alloc, definition, args)?;
+        let args = all_args(self.alloc, &definition, args)?;
         self.out = before;
         let list = substitute_function(
             self.alloc,
             &mut self.sets,
-            definition,
+            &definition,
             args.as_slice(),
             &name.tok,
         )?;

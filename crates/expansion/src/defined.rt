@@ -11,7 +11,6 @@ use crate::built_ins::instead;
 use crate::machine::{Machine, Turn};
 use crate::scope::Scope;
 use list_stack::ListStack;
-use macro_tokens::{is_close_paren, is_identifier, is_open_paren};
 use scan_model::{Bytes, Kind, NoMemory};
 use substitution::Marked;
 
@@ -42,7 +41,7 @@ impl<'a> Machine<'a> {
 }
 
 /// `1` or `0`.
-fn digit(is_defined: bool) -> &'static [u8]
+pub(crate) fn digit(is_defined: bool) -> &'static [u8]
     ensures { result.now ≡ digit_of is_defined }
 {
     if is_defined { b"1" } else { b"0" }
@@ -55,7 +54,7 @@ fn defined_name(todo: &ListStack) -> Option<DefinedName<'_>>
     let Some(first) = todo.at(0) else {
         return None;
     };
-    if is_identifier(&first.tok) {
+    if first.tok.is_ident() {
         return Some(DefinedName {
             name: first.tok.text.as_slice(),
             length: 1,
@@ -64,7 +63,7 @@ fn defined_name(todo: &ListStack) -> Option<DefinedName<'_>>
     let (Some(name), Some(close)) = (todo.at(1), todo.at(2)) else {
         return None;
     };
-    if is_open_paren(&first.tok) && is_identifier(&name.tok) && is_close_paren(&close.tok) {
+    if first.tok.is_open_paren() && name.tok.is_ident() && close.tok.is_close_paren() {
         return Some(DefinedName {
             name: name.tok.text.as_slice(),
             length: 3,

@@ -9,6 +9,7 @@ mod machine;
 mod objects;
 mod run;
 mod scope;
+mod straight;
 mod turns;
 
 pub use run::expand;

@@ -9,9 +9,9 @@ ghost use Rattle.expansion.specs.States.{IsMachine, Turns, continued, weight};
 
 use hide_sets::{HideSet, HideSets};
 use list_stack::ListStack;
-use scan_model::{Expanded, FunctionDef, Items, NoMemory};
+use scan_model::{Expanded, Items, NoMemory};
 use std::alloc::Global;
-use substitution::{Arg, Marked};
+use substitution::{Arg, IndexedDef, Marked};
 
 /// What the replacements of one expansion may cost.
 pub(crate) const COST_LIMIT: u32 = 1_048_576;
@@ -19,7 +19,7 @@ pub(crate) const COST_LIMIT: u32 = 1_048_576;
 /// A call of a function-like macro that has its arguments cut ([cpp.subst]).
 #[derive(Drop)]
 pub(crate) struct Call<'a> {
-    pub(crate) definition: &'a FunctionDef,
+    pub(crate) definition: IndexedDef<'a>,
     pub(crate) name: Marked,
     /// The hide set of its `)`.
     pub(crate) close: HideSet,

@@ -5,10 +5,10 @@ ghost use Rattle.expansion.specs.Lists.{unhidden};
 
 use crate::machine::{Machine, Turn};
 use crate::scope::Scope;
+use crate::straight::straight;
 use hide_sets::{HideSet, HideSets};
 use list_stack::ListStack;
 use macro_table::Macros;
-use macro_tokens::copy_tok;
 use scan_model::{Expanded, Mode, NoMemory, Site, Tok};
 use std::alloc::Global;
 use substitution::Marked;
@@ -29,6 +29,9 @@ pub fn expand(
     ensures { IfOk result (λ expanded. expanded ≡ expansion.expand (macros_of macros.now).defs site.now mode toks.now) }
 {
     let scope = Scope { macros, site, mode };
+    if let Some(list) = straight(alloc, &scope, toks)? {
+        return Ok(Expanded::Done(list, first_counter(mode)));
+    }
     let mut machine = Machine {
         alloc,
         sets: HideSets::new(alloc),
@@ -63,7 +66,7 @@ fn unhidden(alloc: Global, toks: &[Tok]) -> Result<Vec<Marked>, NoMemory>
     let mut list = Vec::new(alloc);
     for tok in toks {
         list.push(Marked {
-            tok: copy_tok(alloc, tok)?,
+            tok: tok.copy(alloc)?,
             hides: HideSet::empty(),
         })?;
     }

@@ -9,7 +9,6 @@ ghost use Rattle.expansion.specs.States.{IsMachine, Turns, continued, ran_of, sc
 use crate::machine::{Machine, Turn};
 use crate::scope::Scope;
 use macro_table::Def;
-use macro_tokens::is_identifier;
 use scan_model::{Mode, NoMemory, Tok};
 use substitution::Marked;
 
@@ -22,7 +21,7 @@ impl<'a> Machine<'a> {
         let Some(token) = self.todo.next() else {
             return self.end_list();
         };
-        if !is_identifier(&token.tok) {
+        if !token.tok.is_ident() {
             return self.goes_out(token);
         }
         if is_defined_operator(scope.mode, &token.tok) {
@@ -56,7 +55,7 @@ impl<'a> Machine<'a> {
 }
 
 /// Whether the identifier is the operator `defined`, which only conditions have ([cpp.cond]).
-fn is_defined_operator(mode: Mode, tok: &Tok) -> bool
+pub(crate) fn is_defined_operator(mode: Mode, tok: &Tok) -> bool
     ensures { result ≡ (expansion.in_condition mode && spells "defined" tok.now.text) }
 {
     matches!(mode, Mode::Condition) && tok.text.as_slice() == b"defined".as_slice()

@@ -3,7 +3,6 @@ ghost use Rattle.scan_model.specs.TokenTests.{is_comma};
 ghost use Rattle.list_stack.specs.Places.{AreLinked, Closes, HasComma, CutsAt, floor};
 
 use crate::entry::{Entry, places_below};
-use macro_tokens::{is_comma, is_open_paren};
 use scan_model::NoMemory;
 use std::alloc::Global;
 
@@ -28,7 +27,7 @@ pub(crate) fn close_of_first(entries: &[Entry], floor: usize) -> Option<usize>
         return None;
     }
     let top = count - 1;
-    if !is_open_paren(&entries[top].marked.tok) {
+    if !entries[top].marked.tok.is_open_paren() {
         return None;
     }
     let Some(close) = places_below(entries, top).close else {
@@ -44,7 +43,7 @@ fn is_comma_at(entries: &[Entry], place: usize) -> bool
     requires { place < length entries.now }
     ensures { (d : Entry) → result ≡ is_comma (slice_index_or entries.now place d).marked.tok }
 {
-    is_comma(&entries[place].marked.tok)
+    entries[place].marked.tok.is_comma()
 }
 
 /// The first comma outside parentheses between two places, from the upper one down.

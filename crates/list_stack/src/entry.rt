@@ -1,7 +1,6 @@
 ghost use Rattle.std.specs.Prelude.{◌≡◌, OnOk, ◌≤◌, length, [], ◌∷◌};
 ghost use Rattle.list_stack.specs.Places.{places_of, part, AreLinked, Adds};
 
-use macro_tokens::{is_close_paren, is_comma, is_open_paren};
 use scan_model::{NoMemory, Tok};
 use substitution::Marked;
 
@@ -57,13 +56,13 @@ fn places_from(tok: &Tok, entries: &[Entry]) -> Places
     ensures { (m : Marked) → m.tok ≡ tok.now → result ≡ places_of 0 (m ∷ part 0 (length entries.now) entries.now) }
 {
     let count = entries.len();
-    let further = if is_open_paren(tok) {
+    let further = if tok.is_open_paren() {
         places_past_close(entries)
     } else {
         places_below(entries, count)
     };
-    let closes = is_close_paren(tok);
-    let stops = is_comma(tok) || closes;
+    let closes = tok.is_close_paren();
+    let stops = tok.is_comma() || closes;
     Places {
         close: if closes { Some(count) } else { further.close },
         stop: if stops { Some(count) } else { further.stop },

@@ -8,7 +8,6 @@ use crate::cuts::{close_of_first, commas, floor, with_places};
 use crate::entry::Entry;
 use crate::filling::{entries_of, put_on_top};
 use hide_sets::{HideSet, HideSets};
-use macro_tokens::is_open_paren;
 use scan_model::{Items, NoMemory};
 use std::alloc::Global;
 use std::marker::Model;
@@ -91,7 +90,7 @@ impl ListStack {
         ensures { result ≡ is_called self.now.first }
     {
         match self.at(0) {
-            Some(marked) => is_open_paren(&marked.tok),
+            Some(marked) => marked.tok.is_open_paren(),
             None => false,
         }
     }

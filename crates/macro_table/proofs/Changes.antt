@@ -1,9 +1,10 @@
 -- What a change of one name's entry does to the map.
 use Rattle.std.proofs.Common.{◌≡◌, ℕ, Bool, true, false, cond, inl, inr, List, [], ◌∷◌, refl, sym, ap, subst, ◌∙◌}
-use Rattle.std.specs.Prelude.{Option, Some, None, IfSome, All, Result, Ok, Err, OnOk, OnErr, not, ◌&&◌}
+use Rattle.std.specs.Prelude.{Option, Some, None, IfSome, All, Result, Ok, Err, OnOk, OnErr, not}
 use Rattle.scan_model.specs.declared.memory.NoMemory.{NoMemory}
 use Rattle.std.specs.Option.{option_and_then, option_map_or}
 use Rattle.std.specs.Cmp.Lexicographic.{bytes_decides}
+use Rattle.std.proofs.Math.Bool.{and-false}
 use Rattle.std.proofs.lemmas.Bool.{cases_Bool, cond-true, cond-false, true≢false}
 use Rattle.scan_model.specs.declared.macros.Def.{Def}
 use Rattle.scan_model.specs.Macros.{Macros, put, define, undef, push, pop, restored as restored_map}
@@ -168,10 +169,7 @@ pub Fits-definition : (name : List ℕ) (def : Def) → IsDefinition name def �
 unfolding IsDefinition
 Fits-definition name (Object body) h = h
 Fits-definition name (Function f) h = h
-Fits-definition name (BuiltIn b) h = absurd (true≢false (sym h ∙ and_false (not (is_forbidden name)))) where
-  and_false : (b : Bool) → (b && false) ≡ false
-  and_false true = refl
-  and_false false = refl
+Fits-definition name (BuiltIn b) h = absurd (true≢false (sym h ∙ and-false (not (is_forbidden name))))
 
 -- what was read of an entry, written back, changes nothing
 pub written_back : (name : List ℕ) (s t : SlotView) (old new : List (Vec ℕ Global × SlotView)) → Some s ≡ lookup (is_at name) old → t ≡ s → new ≡ set_value (is_at name) old t → new ≡ old

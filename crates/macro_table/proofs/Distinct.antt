@@ -3,6 +3,7 @@ use Rattle.std.proofs.Common.{◌≡◌, ℕ, Bool, true, false, cond, List, [],
 use Rattle.std.specs.Prelude.{not, ◌&&◌}
 use Rattle.std.specs.Borrow.{Bor}
 use Rattle.std.specs.Cmp.Lexicographic.{nat_list_eq_equiv}
+use Rattle.std.proofs.Math.Bool.{or-true, and-false}
 use Rattle.std.proofs.lemmas.Bool.{cases_Bool, true≢false}
 use Rattle.std.proofs.lemmas.List.{take_more}
 use Rattle.scan_model.specs.MacroDefinition.{are_distinct}
@@ -13,10 +14,7 @@ use Rattle.macro_table.proofs.HeadLemmas.{texts-push}
 -- a name is found where it stands
 is_among-here : (ss : List (List ℕ)) (x : List ℕ) (ys : List (List ℕ)) (q : List ℕ) → same x q ≡ true → is_among (ss ++ x ∷ ys) q ≡ true
 is_among-here [] x ys q e = rw e refl
-is_among-here (s ∷ ss) x ys q e = rw (is_among-here ss x ys q e) (or_true (same s q)) where
-  or_true : (b : Bool) → (b || true) ≡ true
-  or_true true = refl
-  or_true false = refl
+is_among-here (s ∷ ss) x ys q e = rw (is_among-here ss x ys q e) (or-true (same s q))
 
 pub is_among-push : (ss : List (List ℕ)) (x q : List ℕ) → is_among (ss ++ x ∷ []) q ≡ cond (same x q) true (is_among ss q)
 is_among-push [] x q = last_one (same x q) where
@@ -51,12 +49,8 @@ are_distinct-twice [] x ys e = absurd (true≢false (sym e))
 are_distinct-twice (s ∷ ss) x ys e =
     elim (cases_Bool (same s x)) [
       | inl y ↦ rw (is_among-here ss x ys s (nat_list_eq_equiv.symm x s ∙ y)) refl
-      | inr n ↦ rw (are_distinct-twice ss x ys (ap (λ b. b || is_among ss x) (sym n) ∙ e)) (and_false (not (is_among (ss ++ x ∷ ys) s)))
+      | inr n ↦ rw (are_distinct-twice ss x ys (ap (λ b. b || is_among ss x) (sym n) ∙ e)) (and-false (not (is_among (ss ++ x ∷ ys) s)))
     ]
-  where
-    and_false : (b : Bool) → (b && false) ≡ false
-    and_false true = refl
-    and_false false = refl
 
 -- ## As a loop goes over them
 

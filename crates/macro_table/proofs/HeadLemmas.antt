@@ -1,9 +1,10 @@
 -- How a parameter list goes on.
-use Rattle.std.proofs.Common.{◌≡◌, ℕ, Bool, true, false, List, [], ◌∷◌, ◌++◌, refl, sym, ap, ◌∙◌, drop, get_or, append_assoc, ◌||◌}
+use Rattle.std.proofs.Common.{◌≡◌, ℕ, true, false, List, [], ◌∷◌, ◌++◌, refl, sym, ap, ◌∙◌, drop, get_or, append_assoc, ◌||◌}
 use Rattle.std.specs.Prelude.{Option, Some, None, codes}
 use Rattle.std.specs.Option.{option_map}
 use Rattle.std.specs.Borrow.{Bor}
 use Rattle.std.specs.Cmp.Lexicographic.{bytes_decides}
+use Rattle.std.proofs.Math.Bool.{or-false}
 use Rattle.std.proofs.lemmas.Bool.{and_parts, true≢false, eqb-true}
 use Prim.Native.String.{String}
 use Rattle.scan_model.specs.declared.token.Kind.TheVariants.{Ident, Punct}
@@ -17,13 +18,9 @@ use Rattle.macro_table.specs.Heads.{texts, with_params, head_after, goes_on}
 ident_no_sign : (t : Tok) (signs : List String) → is_of Ident t ≡ true → is_sign signs t ≡ false
 ident_no_sign t signs e = let k : kind_number t.kind ≡ 0 = eqb-true (kind_number t.kind) 0 e in rw k refl
 
-or_none : (b : Bool) → (b || false) ≡ b
-or_none true = refl
-or_none false = refl
-
 -- a comma has that text
 comma_text : (t : Tok) → is_comma t ≡ true → t.text ≡ codes ","
-comma_text t e = sym ((bytes_decides (codes ",") t.text).0 (sym (or_none (spells "," t.text)) ∙ (and_parts (is_of Punct t) (spells "," t.text || false) e).1))
+comma_text t e = sym ((bytes_decides (codes ",") t.text).0 (sym (or-false (spells "," t.text)) ∙ (and_parts (is_of Punct t) (spells "," t.text || false) e).1))
 
 comma_closes : (t : Tok) → is_comma t ≡ true → is_close_paren t ≡ false
 comma_closes t e = rw ((and_parts (is_of Punct t) (spells "," t.text || false) e).0, comma_text t e) refl

@@ -10,20 +10,9 @@ pub(crate) fn copied_tokens(alloc: Global, toks: &[Tok]) -> Result<Items<Tok>, N
 {
     let mut copies = Vec::with_capacity(alloc, toks.len())?;
     for tok in toks {
-        copies.push(copied_token(alloc, tok)?)?;
+        copies.push(tok.copy(alloc)?)?;
     }
     Ok(Items::of_vec(copies))
-}
-
-fn copied_token(alloc: Global, tok: &Tok) -> Result<Tok, NoMemory>
-    ensures { IfOk result (λ copy. copy ≡ tok.now) }
-{
-    Ok(Tok {
-        kind: tok.kind,
-        text: Bytes::copy(alloc, tok.text.as_slice())?,
-        space: tok.space,
-        line: tok.line,
-    })
 }
 
 /// The names in memory of their own.

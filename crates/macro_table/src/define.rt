@@ -7,7 +7,7 @@ ghost use Rattle.macro_table.specs.Definition.{IsDefinition, is_name};
 use crate::copies::copied_tokens;
 use crate::function::read_function;
 use crate::replacement::has_operands;
-use crate::token_tests::{is_forbidden, is_identifier, is_open_paren};
+use crate::token_tests::is_forbidden;
 use scan_model::{Bytes, Def, NoMemory, Tok};
 use std::alloc::Global;
 
@@ -42,7 +42,7 @@ pub fn read_define(alloc: Global, toks: &[Tok]) -> Result<Result<(Bytes, Def), B
 fn begins_with_name(toks: &[Tok]) -> bool
     ensures { result ≡ begins_with is_name toks.now }
 {
-    !toks.is_empty() && is_identifier(&toks[0]) && !is_forbidden(toks[0].text.as_slice())
+    !toks.is_empty() && toks[0].is_ident() && !is_forbidden(toks[0].text.as_slice())
 }
 
 /// What follows a macro's name.
@@ -62,5 +62,5 @@ fn read_definition(alloc: Global, toks: &[Tok]) -> Result<Option<Def>, NoMemory>
 fn begins_params(toks: &[Tok]) -> bool
     ensures { result ≡ begins_with (λ t. is_open_paren t && not t.space) toks.now }
 {
-    !toks.is_empty() && is_open_paren(&toks[0]) && !toks[0].space
+    !toks.is_empty() && toks[0].is_open_paren() && !toks[0].space
 }

@@ -1,10 +1,10 @@
-ghost use Rattle.std.specs.Prelude.{◌≡◌, ◌<◌, IfOk, false, length, drop, codes, Some, []};
+ghost use Rattle.std.specs.Prelude.{◌≡◌, ◌<◌, IfOk, false, length, drop, Some};
 ghost use Rattle.std.specs.Option.{option_map};
 ghost use Rattle.scan_model.specs.MacroDefinition as definition;
 ghost use Rattle.scan_model.specs.TokenTests.{begins_with, is_close_paren};
 ghost use Rattle.macro_table.specs.Heads.{goes_on, head_after, texts, text, with_params};
 
-use crate::token_tests::{is_close_paren, is_comma, is_ellipsis, is_identifier};
+use crate::token_tests::is_ellipsis;
 use scan_model::{NoMemory, Tok};
 use std::alloc::Global;
 use std::marker::Model;
@@ -50,7 +50,7 @@ pub(crate) fn read_head<'a>(alloc: Global, toks: &'a [Tok]) -> Result<Option<Hea
 fn begins_with_close(toks: &[Tok]) -> bool
     ensures { result ≡ begins_with is_close_paren toks.now }
 {
-    !toks.is_empty() && is_close_paren(&toks[0])
+    !toks.is_empty() && toks[0].is_close_paren()
 }
 
 fn read_params<'a>(params: Vec<&'a [u8]>, toks: &'a [Tok]) -> Result<Option<Head<'a>>, NoMemory>
@@ -69,7 +69,7 @@ fn read_params<'a>(params: Vec<&'a [u8]>, toks: &'a [Tok]) -> Result<Option<Head
 fn goes_on(toks: &[Tok]) -> bool
     ensures { result ≡ goes_on toks.now }
 {
-    toks.len() >= 2 && is_identifier(&toks[0]) && is_comma(&toks[1])
+    toks.len() >= 2 && toks[0].is_ident() && toks[1].is_comma()
 }
 
 /// The tokens after a parameter and a comma.
@@ -91,14 +91,14 @@ fn end_params<'a>(params: Vec<&'a [u8]>, rest: &'a [Tok]) -> Result<Option<Head<
     if is_ellipsis(&rest[0]) {
         return Ok(closed(params, VARIABLE_PART, &rest[1..]));
     }
-    if !is_identifier(&rest[0]) {
+    if !rest[0].is_ident() {
         return Ok(None);
     }
     let name = rest[0].text.as_slice();
     if is_ellipsis(&rest[1]) {
         return Ok(closed(params, name, &rest[2..]));
     }
-    if !is_close_paren(&rest[1]) {
+    if !rest[1].is_close_paren() {
         return Ok(None);
     }
     let mut params = params;

@@ -3,14 +3,13 @@ ghost use Rattle.std.specs.Option.{option_map};
 ghost use Rattle.scan_model.specs.Parentheses.{depth_after};
 ghost use Rattle.macro_table.specs.Names.{enclosed_tokens, inside_parens};
 
-use crate::token_tests::{is_close_paren, is_open_paren};
 use scan_model::Tok;
 
 /// What the parenthesis that begins the tokens encloses. None exactly where none does, or where it isn't closed.
 pub(crate) fn inside_parens(toks: &[Tok]) -> Option<&[Tok]>
     ensures { option_map (λ ts. ts.now) result ≡ inside_parens toks.now }
 {
-    if toks.is_empty() || !is_open_paren(&toks[0]) {
+    if toks.is_empty() || !toks[0].is_open_paren() {
         return None;
     }
     before_close(&toks[1..])
@@ -22,7 +21,7 @@ fn before_close(toks: &[Tok]) -> Option<&[Tok]>
 {
     let mut depth = 0usize;
     for (i, tok) in toks.iter().enumerate() {
-        if depth == 0 && is_close_paren(tok) {
+        if depth == 0 && tok.is_close_paren() {
             return Some(&toks[..i]);
         }
         depth = depth_after(tok, depth);
@@ -35,9 +34,9 @@ fn depth_after(tok: &Tok, depth: usize) -> usize
     requires { depth + 1 < 2 ^ 64 }
     ensures { result ≡ depth_after tok.now depth }
 {
-    if is_open_paren(tok) {
+    if tok.is_open_paren() {
         depth + 1
-    } else if is_close_paren(tok) {
+    } else if tok.is_close_paren() {
         depth.saturating_sub(1)
     } else {
         depth

@@ -5,7 +5,6 @@ ghost use Rattle.scan_model.specs.TokenTests.{begins_with, ends_with, is_paste};
 ghost use Rattle.macro_table.specs.Names.{has_name, is_operand_by, fits_by};
 
 use crate::parentheses::inside_parens;
-use crate::token_tests::{is_hash, is_identifier, is_opt, is_paste};
 use scan_model::Tok;
 use std::collections::HashSet;
 
@@ -19,13 +18,13 @@ pub(crate) fn has_operands(toks: &[Tok]) -> bool
 fn begins_with_paste(toks: &[Tok]) -> bool
     ensures { result ≡ begins_with is_paste toks.now }
 {
-    !toks.is_empty() && is_paste(&toks[0])
+    !toks.is_empty() && toks[0].is_paste()
 }
 
 fn ends_with_paste(toks: &[Tok]) -> bool
     ensures { result ≡ ends_with is_paste toks.now }
 {
-    !toks.is_empty() && is_paste(&toks[toks.len() - 1])
+    !toks.is_empty() && toks[toks.len() - 1].is_paste()
 }
 
 /// Whether each `#` stands before what it may make a string of, and each `__VA_OPT__` of a list with a variable part is
@@ -44,7 +43,7 @@ fn hashes_fit(names: &HashSet<&[u8]>, is_variadic: bool, toks: &[Tok]) -> bool
     ensures { result ≡ definition.hashes_fit (is_operand_by (has_name names.now.keys) is_variadic) toks.now }
 {
     for (i, tok) in toks.iter().enumerate() {
-        if is_hash(tok) && !begins_with_operand(names, is_variadic, &toks[i + 1..]) {
+        if tok.is_hash() && !begins_with_operand(names, is_variadic, &toks[i + 1..]) {
             return false;
         }
     }
@@ -61,7 +60,7 @@ fn begins_with_operand(names: &HashSet<&[u8]>, is_variadic: bool, toks: &[Tok]) 
 fn is_operand(names: &HashSet<&[u8]>, is_variadic: bool, tok: &Tok) -> bool
     ensures { result ≡ is_operand_by (has_name names.now.keys) is_variadic tok.now }
 {
-    is_identifier(tok) && names.contains(tok.text.as_slice()) || is_variadic && is_opt(tok)
+    tok.is_ident() && names.contains(tok.text.as_slice()) || is_variadic && tok.is_opt()
 }
 
 /// Whether each `__VA_OPT__` is followed by its content.
@@ -69,7 +68,7 @@ fn opts_fit(toks: &[Tok]) -> bool
     ensures { result ≡ definition.opts_fit toks.now }
 {
     for (i, tok) in toks.iter().enumerate() {
-        if is_opt(tok) && !opt_fits(&toks[i + 1..]) {
+        if tok.is_opt() && !opt_fits(&toks[i + 1..]) {
             return false;
         }
     }
@@ -90,5 +89,5 @@ fn opt_fits(toks: &[Tok]) -> bool
 fn has_opt(toks: &[Tok]) -> bool
     ensures { result ≡ list_any definition.is_opt toks.now }
 {
-    toks.iter().any(is_opt)
+    toks.iter().any(Tok::is_opt)
 }

@@ -1,60 +1,14 @@
 ghost use Rattle.std.specs.Prelude.{◌≡◌, [], ◌∷◌};
-ghost use Rattle.scan_model.specs.declared.token.Kind.TheVariants.{Ident};
 ghost use Rattle.scan_model.specs.Spelling.{is_one_of};
 ghost use Rattle.scan_model.specs.TokenTests as test;
 ghost use Rattle.scan_model.specs.MacroDefinition as definition;
 
 use scan_model::{Kind, Tok};
 
-pub(crate) fn is_identifier(tok: &Tok) -> bool
-    ensures { result ≡ test.is_of Ident tok.now }
-{
-    matches!(tok.kind, Kind::Ident)
-}
-
-/// `#`, also written `%:`.
-pub(crate) fn is_hash(tok: &Tok) -> bool
-    ensures { result ≡ test.is_hash tok.now }
-{
-    matches!(tok.kind, Kind::Punct) && matches!(tok.text.as_slice(), b"#" | b"%:")
-}
-
-/// `##`, also written `%:%:`.
-pub(crate) fn is_paste(tok: &Tok) -> bool
-    ensures { result ≡ test.is_paste tok.now }
-{
-    matches!(tok.kind, Kind::Punct) && matches!(tok.text.as_slice(), b"##" | b"%:%:")
-}
-
-pub(crate) fn is_comma(tok: &Tok) -> bool
-    ensures { result ≡ test.is_comma tok.now }
-{
-    matches!(tok.kind, Kind::Punct) && tok.text.as_slice() == b",".as_slice()
-}
-
-pub(crate) fn is_open_paren(tok: &Tok) -> bool
-    ensures { result ≡ test.is_open_paren tok.now }
-{
-    matches!(tok.kind, Kind::Punct) && tok.text.as_slice() == b"(".as_slice()
-}
-
-pub(crate) fn is_close_paren(tok: &Tok) -> bool
-    ensures { result ≡ test.is_close_paren tok.now }
-{
-    matches!(tok.kind, Kind::Punct) && tok.text.as_slice() == b")".as_slice()
-}
-
 pub(crate) fn is_ellipsis(tok: &Tok) -> bool
     ensures { result ≡ test.is_sign ("..." ∷ []) tok.now }
 {
     matches!(tok.kind, Kind::Punct) && tok.text.as_slice() == b"...".as_slice()
-}
-
-/// `__VA_OPT__`
-pub(crate) fn is_opt(tok: &Tok) -> bool
-    ensures { result ≡ definition.is_opt tok.now }
-{
-    is_identifier(tok) && tok.text.as_slice() == b"__VA_OPT__".as_slice()
 }
 
 /// Whether no macro may have this name ([cpp.predefined], [cpp.replace]).

@@ -14,10 +14,15 @@ and-assoc true true c d = refl
 and-assoc true false c d = refl
 and-assoc false b c d = refl
 
+-- by the first token
+pub alone-first : (variable : Bool) (name : List ℕ) (before last : List Tok) (t : Tok) (after : List Tok) → stands_alone variable name before last (t ∷ after) ≡ ((is_named name t && is_alone variable before last after) || stands_alone variable name last (t ∷ []) after)
+alone-first variable name before last t after =
+    ap (λ (here : Bool). here || stands_alone variable name last (t ∷ []) after)
+    (and-assoc (is_named name t) (not (begins_with is_hash last)) (not (begins_with is_paste last) || (variable && begins_with is_comma before)) (not (begins_with is_paste after)))
+
 alone-step : (variable : Bool) (name : List ℕ) (before last : List Tok) (t : Tok) (after : List Tok) → (is_named name t && is_alone variable before last after) ≡ false → stands_alone variable name before last (t ∷ after) ≡ stands_alone variable name last (t ∷ []) after
 alone-step variable name before last t after f =
-    ap (λ (here : Bool). here || stands_alone variable name last (t ∷ []) after)
-    (and-assoc (is_named name t) (not (begins_with is_hash last)) (not (begins_with is_paste last) || (variable && begins_with is_comma before)) (not (begins_with is_paste after)) ∙ f)
+    alone-first variable name before last t after ∙ ap (λ (here : Bool). here || stands_alone variable name last (t ∷ []) after) f
 
 pub alone-more : (variable : Bool) (name : List ℕ) (before last body : List Tok) (i : ℕ) (t : Tok) → i < length body → t ≡ get_or body i t → (is_named name t && is_alone variable before last (drop (i + 1) body)) ≡ false → stands_alone variable name before last (drop i body) ≡ stands_alone variable name [] [] body → stands_alone variable name last (take (i + 1 - i) (drop i body)) (drop (i + 1) body) ≡ stands_alone variable name [] [] body
 alone-more variable name before last body i t h e f k =

@@ -11,3 +11,5 @@ pub mod SubstituteLemmas
 pub mod AloneLemmas
 pub mod OperandLemmas
 pub mod WrittenLemmas
+pub mod PlaceLemmas
+pub mod NameLemmas

@@ -4,3 +4,4 @@ pub mod Joins
 pub mod Calls
 pub mod Parens
 pub mod Written
+pub mod Places

@@ -1,17 +1,20 @@
-ghost use Rattle.std.specs.Prelude.{◌≡◌, not, ◌&&◌, ◌||◌, []};
+ghost use Rattle.std.specs.Prelude.{◌≡◌, ℕ, not, ◌&&◌, ◌||◌, List, [], IfOk};
 ghost use Rattle.std.specs.List.{list_any};
 ghost use Rattle.scan_model.specs.TokenTests.{is_hash, is_paste, is_comma, begins_with};
 ghost use Rattle.scan_model.specs.MacroDefinition.{is_opt};
 ghost use Rattle.scan_model.specs.Substitution.{is_variable_part, stands_alone, is_replaced};
+ghost use Rattle.substitution.specs.Places.{has_name};
 
-use macro_tokens::{begins_with_comma, begins_with_hash, begins_with_paste, is_named, is_opt};
-use scan_model::{FunctionDef, Tok};
+use crate::fronts::{begins_with_comma, begins_with_hash, begins_with_paste};
+use crate::names::add_name;
+use scan_model::{FunctionDef, NoMemory, Tok};
+use std::alloc::Global;
+use std::collections::HashSet;
 
-/// Whether a replacement needs the argument of the parameter of this name replaced by itself ([cpp.subst]): the parameter
-/// stands somewhere with neither `#` nor `##` next to it. The variable part is also needed after `, ##`, and for each
-/// `__VA_OPT__`.
+/// Whether a replacement needs the argument of the parameter of this name replaced by itself ([cpp.subst]), found by a walk
+/// over the list.
 #[tactic(auto, unfolding(scan_model::specs::Substitution::is_replaced))]
-pub fn is_replaced(definition: &FunctionDef, name: &[u8]) -> bool
+pub(crate) fn is_replaced(definition: &FunctionDef, name: &[u8]) -> bool
     ensures { result ≡ is_replaced definition.now name.now }
 {
     let variable = is_variable_part(definition, name);
@@ -19,7 +22,7 @@ pub fn is_replaced(definition: &FunctionDef, name: &[u8]) -> bool
     stands_alone(variable, name, body) || (variable && has_opt(body))
 }
 
-fn is_variable_part(definition: &FunctionDef, name: &[u8]) -> bool
+pub(crate) fn is_variable_part(definition: &FunctionDef, name: &[u8]) -> bool
     ensures { result ≡ is_variable_part definition.now.variadic name.now }
 {
     match &definition.variadic {
@@ -34,13 +37,35 @@ fn stands_alone(variable: bool, name: &[u8], body: &[Tok]) -> bool
     let mut before = &body[..0];
     let mut last = before;
     'toks: for i in 0..body.len() {
-        if is_named(name, &body[i]) && is_alone(variable, before, last, &body[i + 1..]) {
+        if body[i].is_named(name) && is_alone(variable, before, last, &body[i + 1..]) {
             return true;
         }
         before = last;
         last = &body[i..i + 1];
     }
     false
+}
+
+/// The names that stand somewhere in the list alone, each by the test of a parameter of this name.
+pub(crate) fn names_alone<'a>(
+    alloc: Global,
+    definition: &'a FunctionDef,
+) -> Result<HashSet<&'a [u8]>, NoMemory>
+    ensures { IfOk result (λ names. (q : List ℕ) → has_name names.keys q ≡ stands_alone (is_variable_part definition.now.variadic q) q [] [] definition.now.body) }
+{
+    let body = definition.body.as_slice();
+    let mut names = HashSet::new(alloc);
+    let mut before = &body[..0];
+    let mut last = before;
+    'toks: for i in 0..body.len() {
+        let tok = &body[i];
+        let variable = is_variable_part(definition, tok.text.as_slice());
+        let alone = is_alone(variable, before, last, &body[i + 1..]);
+        add_name(&mut names, tok, alone)?;
+        before = last;
+        last = &body[i..i + 1];
+    }
+    Ok(names)
 }
 
 /// Whether a parameter between these tokens stands alone: `last` holds the token right before it, and `before` the one
@@ -53,8 +78,8 @@ fn is_alone(variable: bool, before: &[Tok], last: &[Tok], after: &[Tok]) -> bool
         && !begins_with_paste(after)
 }
 
-fn has_opt(body: &[Tok]) -> bool
+pub(crate) fn has_opt(body: &[Tok]) -> bool
     ensures { result ≡ list_any is_opt body.now }
 {
-    body.iter().any(|tok| is_opt(tok))
+    body.iter().any(|tok| tok.is_opt())
 }

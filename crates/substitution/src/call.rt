@@ -1,4 +1,4 @@
-ghost use Rattle.std.specs.Prelude.{◌≡◌, ◌<◌, ◌≤◌, length, slice_index_or, IfSome, MatchOption, is_some, map};
+ghost use Rattle.std.specs.Prelude.{◌≡◌, IfSome, is_some, map};
 ghost use Rattle.std.specs.Option.{option_map};
 ghost use Rattle.hide_sets.specs.Sets.{Sets};
 ghost use Rattle.scan_model.specs.MacroDefinition.{all_params};
@@ -7,15 +7,14 @@ ghost use Rattle.scan_model.specs.Substitution as subst;
 ghost use Rattle.substitution.specs.Meaning.{arg_of, IsArg};
 ghost use Rattle.substitution.specs.Calls.{call_of, AreArgs};
 
-use crate::Arg;
-use macro_tokens::{is_comma, is_identifier, is_named, is_opt, is_paste};
-use scan_model::{FunctionDef, Tok};
+use crate::{Arg, IndexedDef};
+use scan_model::Tok;
 
 /// What a replacement needs beside the list.
 #[derive(Clone, Copy)]
-pub(crate) struct Call<'a> {
+pub(crate) struct Call<'a, 'd> {
     /// None for an object-like macro.
-    pub(crate) definition: Option<&'a FunctionDef>,
+    pub(crate) definition: Option<&'a IndexedDef<'d>>,
     /// The arguments, the variable part's last.
     pub(crate) args: &'a [Arg],
     /// The line of the name that is replaced.
@@ -30,7 +29,7 @@ pub(crate) struct PartEnd<'a> {
     pub(crate) after: &'a [Tok],
 }
 
-impl<'a> Call<'a> {
+impl<'a, 'd> Call<'a, 'd> {
     pub(crate) fn is_function(&self) -> bool
         ensures { (sets : Sets) → result ≡ (call_of sets self.now).function }
     {
@@ -40,9 +39,16 @@ impl<'a> Call<'a> {
     pub(crate) fn is_variadic(&self) -> bool
         ensures { (sets : Sets) → result ≡ is_some (call_of sets self.now).variadic }
     {
-        match self.definition {
-            Some(definition) => definition.variadic.is_some(),
-            None => false,
+        self.variable().is_some()
+    }
+
+    /// The variable part's name.
+    fn variable(&self) -> Option<&'d [u8]>
+        ensures { (sets : Sets) → option_map (λ name. name.now) result ≡ (call_of sets self.now).variadic }
+    {
+        match &self.definition?.function().variadic {
+            Some(name) => Some(name.as_slice()),
+            None => None,
         }
     }
 
@@ -50,14 +56,9 @@ impl<'a> Call<'a> {
     pub(crate) fn is_variable(&self, tok: &Tok) -> bool
         ensures { (sets : Sets) → result ≡ subst.is_variable (call_of sets self.now) tok.now }
     {
-        match self.definition {
-            Some(
-                FunctionDef {
-                    variadic: Some(name),
-                    ..
-                },
-            ) => is_named(name.as_slice(), tok),
-            _ => false,
+        match self.variable() {
+            Some(name) => tok.is_named(name),
+            None => false,
         }
     }
 
@@ -77,7 +78,7 @@ impl<'a> Call<'a> {
         ensures value { (sets : Sets) → option_map (λ a. arg_of sets a.now) result ≡ subst.arg_at (call_of sets self.now) tok.now }
         ensures known { (sets : Sets) → AreArgs sets self.now.args.now → IfSome result (λ a. IsArg sets a.now) }
     {
-        if is_identifier(tok) {
+        if tok.is_ident() {
             self.arg(tok.text.as_slice())
         } else {
             None
@@ -88,45 +89,26 @@ impl<'a> Call<'a> {
     pub(crate) fn has_variable(&self) -> bool
         ensures { (sets : Sets) → result ≡ subst.has_variable (call_of sets self.now) }
     {
-        match self.definition {
-            Some(
-                FunctionDef {
-                    variadic: Some(name),
-                    ..
-                },
-            ) => match self.arg(name.as_slice()) {
-                Some(arg) => !arg.replaced().is_empty(),
-                None => false,
-            },
-            _ => false,
+        let Some(name) = self.variable() else {
+            return false;
+        };
+        match self.arg(name) {
+            Some(arg) => !arg.replaced().is_empty(),
+            None => false,
         }
     }
 }
 
-/// The name of the parameter at a place, the variable part's last.
-fn parameter(definition: &FunctionDef, place: usize) -> Option<&[u8]>
-    ensures { MatchOption result (length (all_params definition.now.params definition.now.variadic) ≤ place) (λ name. (place < length (all_params definition.now.params definition.now.variadic)) × (name.now ≡ slice_index_or (all_params definition.now.params definition.now.variadic) place name.now)) }
-{
-    let params = definition.params.as_slice();
-    if place < params.len() {
-        return Some(params[place].as_slice());
-    }
-    match &definition.variadic {
-        Some(name) if place == params.len() => Some(name.as_slice()),
-        _ => None,
-    }
-}
-
-fn arg_named<'a>(definition: &FunctionDef, args: &'a [Arg], name: &[u8]) -> Option<&'a Arg>
+fn arg_named<'a>(definition: &IndexedDef, args: &'a [Arg], name: &[u8]) -> Option<&'a Arg>
     ensures value { (sets : Sets) → option_map (λ a. arg_of sets a.now) result ≡ arg_named (all_params definition.now.params definition.now.variadic) (map (arg_of sets) args.now) name.now }
     ensures known { (sets : Sets) → AreArgs sets args.now → IfSome result (λ a. IsArg sets a.now) }
 {
-    'params: for i in 0..args.len() {
-        match parameter(definition, i) {
-            Some(param) if param == name => return Some(&args[i]),
-            Some(_) => {}
-            None => return None,
-        }
+    let Some(place) = definition.place(name) else {
+        return None;
+    };
+    if place < args.len() {
+        Some(&args[place])
+    } else {
+        None
     }
-    None
 }

@@ -8,7 +8,6 @@ use crate::call::Call;
 use crate::item::Item;
 use crate::{Arg, Marked};
 use hide_sets::HideSet;
-use macro_tokens::copy_tok;
 use scan_model::{NoMemory, Tok};
 use std::alloc::Global;
 
@@ -17,7 +16,7 @@ pub fn copy_marked(alloc: Global, marked: &Marked) -> Result<Marked, NoMemory>
     ensures { IfOk result (λ copy. copy ≡ marked.now) }
 {
     Ok(Marked {
-        tok: copy_tok(alloc, &marked.tok)?,
+        tok: marked.tok.copy(alloc)?,
         hides: marked.hides,
     })
 }
@@ -27,7 +26,7 @@ pub(crate) fn own(alloc: Global, call: &Call, tok: &Tok) -> Result<Marked, NoMem
     ensures known { IfOk result (λ own. own.hides ≡ 0) }
     ensures value { IfOk result (λ own. (sets : Sets) → marked_of sets own ≡ subst.own (call_of sets call.now) tok.now) }
 {
-    let mut copy = copy_tok(alloc, tok)?;
+    let mut copy = tok.copy(alloc)?;
     copy.line = call.line;
     Ok(Marked {
         tok: copy,

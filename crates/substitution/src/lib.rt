@@ -4,22 +4,26 @@
 mod alone;
 mod call;
 mod copies;
+mod fronts;
+mod index;
+mod indexed_def;
 mod item;
 mod joins;
 mod lists;
 mod marked;
+mod names;
 mod optional;
+mod params;
 mod parens;
 mod parts;
 mod strings;
 mod substitute;
 mod written;
 
-pub use alone::is_replaced;
 pub use copies::copy_marked;
+pub use indexed_def::IndexedDef;
 pub use marked::{Arg, Marked};
 pub use substitute::{substitute_function, substitute_object};
-pub use written::is_taken_as_written;
 
 #[cfg(test)]
 mod tests;

@@ -2,7 +2,6 @@ ghost use Rattle.std.specs.Prelude.{◌≡◌, ◌<◌, ◌≤◌, ◌+◌, ◌^
 ghost use Rattle.substitution.specs.Parens.{IsEnclosed};
 ghost use Rattle.scan_model.specs.Parentheses as spec;
 
-use macro_tokens::{is_close_paren, is_open_paren};
 use scan_model::Tok;
 
 /// What parentheses enclose, and what follows them.
@@ -16,7 +15,7 @@ pub(crate) struct Parens<'a> {
 pub(crate) fn in_parens(toks: &[Tok]) -> Option<Parens<'_>>
     ensures { MatchOption result (spec.in_parens (λ t. t) toks.now ≡ None) (IsEnclosed toks.now (spec.in_parens (λ t. t) toks.now)) }
 {
-    if toks.is_empty() || !is_open_paren(&toks[0]) {
+    if toks.is_empty() || !toks[0].is_open_paren() {
         return None;
     }
     enclosed(&toks[1..])
@@ -28,7 +27,7 @@ fn enclosed(toks: &[Tok]) -> Option<Parens<'_>>
 {
     let mut depth = 0;
     'toks: for i in 0..toks.len() {
-        if depth == 0 && is_close_paren(&toks[i]) {
+        if depth == 0 && toks[i].is_close_paren() {
             return Some(Parens {
                 inside: &toks[..i],
                 after: &toks[i + 1..],
@@ -44,9 +43,9 @@ fn depth_after(tok: &Tok, depth: usize) -> usize
     requires { depth + 1 < 2 ^ 64 }
     ensures { result ≡ spec.depth_after tok.now depth }
 {
-    if is_open_paren(tok) {
+    if tok.is_open_paren() {
         depth + 1
-    } else if is_close_paren(tok) {
+    } else if tok.is_close_paren() {
         depth.saturating_sub(1)
     } else {
         depth

@@ -9,11 +9,11 @@ ghost use Rattle.substitution.specs.Calls.{call_of, AreArgs, Adds, AddsString, G
 
 use crate::call::{Call, PartEnd};
 use crate::copies::{add_given, add_own, own};
+use crate::fronts::begins_with_paste;
 use crate::item::Item;
 use crate::strings::string_of;
 use crate::{Arg, Marked};
 use hide_sets::HideSet;
-use macro_tokens::{begins_with_paste, is_comma, is_hash, is_opt, is_paste};
 use scan_model::{NoMemory, Tok};
 use std::alloc::Global;
 
@@ -24,29 +24,29 @@ pub(crate) fn opt_comes(call: &Call, tok: &Tok, after: &[Tok]) -> bool
     if is_hash_operator(call, tok) {
         return opt_after_hash(call, after);
     }
-    !is_paste(tok) && comma_rule(call, tok, after).is_none() && call.is_variadic() && is_opt(tok)
+    !tok.is_paste() && comma_rule(call, tok, after).is_none() && call.is_variadic() && tok.is_opt()
 }
 
 /// Whether the token is the `#` of a function-like macro.
 pub(crate) fn is_hash_operator(call: &Call, tok: &Tok) -> bool
     ensures { (sets : Sets) → result ≡ ((call_of sets call.now).function && is_hash tok.now) }
 {
-    call.is_function() && is_hash(tok)
+    call.is_function() && tok.is_hash()
 }
 
 fn opt_after_hash(call: &Call, after: &[Tok]) -> bool
     ensures { (sets : Sets) → result ≡ opt_after_hash (call_of sets call.now) after.now }
 {
-    !after.is_empty() && call.arg_at(&after[0]).is_none() && call.is_variadic() && is_opt(&after[0])
+    !after.is_empty() && call.arg_at(&after[0]).is_none() && call.is_variadic() && after[0].is_opt()
 }
 
 /// The variable part, where the token and what follows it are `, ## V`.
-fn comma_rule<'a>(call: &Call<'a>, tok: &Tok, after: &[Tok]) -> Option<&'a Arg>
+fn comma_rule<'a>(call: &Call<'a, '_>, tok: &Tok, after: &[Tok]) -> Option<&'a Arg>
     ensures none { (sets : Sets) → is_some result ≡ is_some (subst.comma_part (call_of sets call.now) tok.now after.now) }
     ensures some { (sets : Sets) → IfSome result (λ a. (1 < length after.now) × (subst.comma_part (call_of sets call.now) tok.now after.now ≡ Some (comma_part_of (call_of sets call.now) tok.now after.now (arg_of sets a.now)))) }
     ensures known { (sets : Sets) → AreArgs sets call.now.args.now → IfSome result (λ a. IsArg sets a.now) }
 {
-    if after.len() < 2 || !is_comma(tok) || !is_paste(&after[0]) || !call.is_variable(&after[1]) {
+    if after.len() < 2 || !tok.is_comma() || !after[0].is_paste() || !call.is_variable(&after[1]) {
         return None;
     }
     call.arg(after[1].text.as_slice())
@@ -68,7 +68,7 @@ pub(crate) fn add_part<'a>(
     if is_hash_operator(call, tok) {
         return add_hash(alloc, items, call, tok, after);
     }
-    if is_paste(tok) {
+    if tok.is_paste() {
         items.push(Item::Paste(own(alloc, call, tok)?))?;
         return Ok(Some(PartEnd {
             pasted: true,

@@ -9,9 +9,9 @@ use crate::item::Item;
 use crate::joins::joined;
 use crate::lists::list_items;
 use crate::optional::without_placemarkers;
-use crate::{Arg, Marked};
+use crate::{Arg, IndexedDef, Marked};
 use hide_sets::HideSets;
-use scan_model::{FunctionDef, Items, NoMemory, Tok};
+use scan_model::{Items, NoMemory, Tok};
 use std::alloc::Global;
 
 /// The list that an object-like macro of this replacement list puts in for a name ([cpp.concat]). None exactly where a
@@ -39,7 +39,7 @@ pub fn substitute_object(
 pub fn substitute_function(
     alloc: Global,
     sets: &mut HideSets,
-    definition: &FunctionDef,
+    definition: &IndexedDef,
     args: &[Arg],
     name: &Tok,
 ) -> Result<Option<Items<Marked>>, NoMemory>
@@ -52,7 +52,8 @@ pub fn substitute_function(
         args,
         line: name.line,
     };
-    put_in(alloc, sets, &call, name.space, definition.body.as_slice())
+    let body = definition.function().body.as_slice();
+    put_in(alloc, sets, &call, name.space, body)
 }
 
 fn put_in(

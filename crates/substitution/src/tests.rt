@@ -3,9 +3,7 @@ ghost use Rattle.hide_sets.specs.Sets.{Sets};
 ghost use Rattle.substitution.specs.Meaning.{IsArg, AreMarked};
 ghost use Rattle.substitution.specs.Calls.{AreArgs};
 
-use crate::{
-    Arg, Marked, is_replaced, is_taken_as_written, substitute_function, substitute_object,
-};
+use crate::{Arg, IndexedDef, Marked, substitute_function, substitute_object};
 use hide_sets::{HideSet, HideSets};
 use scan_model::{Bytes, FunctionDef, Items, Kind, NoMemory, Tok};
 use std::alloc::Global;
@@ -177,6 +175,7 @@ fn put_in(alloc: Global, name: &str, call: &str) -> Result<Option<Items<Marked>>
     let definition = definition(alloc, params, body)?;
     let args = args(alloc, given)?;
     let name = token(alloc, NAME, name)?;
+    let definition = IndexedDef::new(alloc, &definition)?;
     Ok(substitute_function(alloc, &mut sets, &definition, args.as_slice(), &name)?)
 }
 

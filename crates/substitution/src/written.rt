@@ -1,13 +1,16 @@
-ghost use Rattle.std.specs.Prelude.{◌≡◌, []};
+ghost use Rattle.std.specs.Prelude.{◌≡◌, ℕ, List, [], IfOk};
+ghost use Rattle.substitution.specs.Places.{has_name};
 ghost use Rattle.substitution.specs.Written.{is_operand, stands_as_operand, is_taken_as_written};
 
-use macro_tokens::{begins_with_hash, begins_with_paste, is_named};
-use scan_model::{FunctionDef, Tok};
+use crate::fronts::{begins_with_hash, begins_with_paste};
+use crate::names::add_name;
+use scan_model::{FunctionDef, NoMemory, Tok};
+use std::alloc::Global;
+use std::collections::HashSet;
 
 /// Whether a replacement may take the argument of the parameter of this name as it is written ([cpp.stringize],
-/// [cpp.concat]): the parameter stands somewhere right after `#` or `##`, or right before `##`. Where it doesn't, only
-/// what the argument is replaced by counts.
-pub fn is_taken_as_written(definition: &FunctionDef, name: &[u8]) -> bool
+/// [cpp.concat]), found by a walk over the list.
+pub(crate) fn is_taken_as_written(definition: &FunctionDef, name: &[u8]) -> bool
     ensures { result ≡ is_taken_as_written definition.now name.now }
 {
     stands_as_operand(name, definition.body.as_slice())
@@ -18,12 +21,30 @@ fn stands_as_operand(name: &[u8], body: &[Tok]) -> bool
 {
     let mut last = &body[..0];
     'toks: for i in 0..body.len() {
-        if is_named(name, &body[i]) && is_operand(last, &body[i + 1..]) {
+        if body[i].is_named(name) && is_operand(last, &body[i + 1..]) {
             return true;
         }
         last = &body[i..i + 1];
     }
     false
+}
+
+/// The names that stand somewhere in the list as operands.
+pub(crate) fn names_of_operands<'a>(
+    alloc: Global,
+    definition: &'a FunctionDef,
+) -> Result<HashSet<&'a [u8]>, NoMemory>
+    ensures { IfOk result (λ names. (q : List ℕ) → has_name names.keys q ≡ stands_as_operand q [] definition.now.body) }
+{
+    let body = definition.body.as_slice();
+    let mut names = HashSet::new(alloc);
+    let mut last = &body[..0];
+    'toks: for i in 0..body.len() {
+        let operand = is_operand(last, &body[i + 1..]);
+        add_name(&mut names, &body[i], operand)?;
+        last = &body[i..i + 1];
+    }
+    Ok(names)
 }
 
 /// Whether what stands between these tokens is an operand of `#` or `##`; `last` holds the token right before it.

@@ -49,6 +49,17 @@ twice ( z ) => z [ 0 ] z [ 0 ]",
 }
 
 #[test]
+fn calls_with_many_parameters(rt: HostRuntime) -> Result<(), Fail> {
+    all_hold(
+        rt.alloc(),
+        Mode::Line,
+        "#define n 7
+#define f ( a , b , c , d , e , f , g , h , i , j , k , l ) l + a ## b # c h d
+f ( x , y , n , 4 , 5 , 6 , 7 , ( n , n ) , 9 , 10 , 11 , n ) => 7 + xy \"n\" ( 7 , 7 ) 4",
+    )
+}
+
+#[test]
 fn calls_close_outside_their_list(rt: HostRuntime) -> Result<(), Fail> {
     all_hold(
         rt.alloc(),
@@ -147,6 +158,24 @@ defined __has_include_next => 1
 defined ( X ) + defined Y => 1 + 0
 E => 1
 __COUNTER__ => Counter",
+    )
+}
+
+#[test]
+fn conditions_are_settled_in_their_places(rt: HostRuntime) -> Result<(), Fail> {
+    all_hold(
+        rt.alloc(),
+        Mode::Condition,
+        "#define A
+#define B 3
+#define E D
+#define f ( x ) x
+#define L B
+defined ( A ) && B >= 3 => 1 && 3 >= 3
+__cplusplus > B && defined C => 202002L > 3 && 0
+E == f || __has_include ( E ) => D == f || __has_include ( D )
+B + f ( B ) + defined A => 3 + 3 + 1
+L + E => 3 + D",
     )
 }
 

@@ -19,7 +19,7 @@ fn are_replaced(alloc: Global, rows: &str) -> Result<(), Fail> {
     for row in rows.split('\n') {
         let (params, body, name, want) = parts(row)?;
         let definition = definition(alloc, params, body)?;
-        let got = is_replaced(&definition, name.as_bytes());
+        let got = IndexedDef::new(alloc, &definition)?.is_replaced(name.as_bytes());
         same(if got { b"yes" } else { b"no" }, want)?;
     }
     Ok(())
@@ -30,7 +30,7 @@ fn are_taken(alloc: Global, rows: &str) -> Result<(), Fail> {
     for row in rows.split('\n') {
         let (params, body, name, want) = parts(row)?;
         let definition = definition(alloc, params, body)?;
-        let got = is_taken_as_written(&definition, name.as_bytes());
+        let got = IndexedDef::new(alloc, &definition)?.is_taken_as_written(name.as_bytes());
         same(if got { b"yes" } else { b"no" }, want)?;
     }
     Ok(())
@@ -54,6 +54,10 @@ V.../f|,|##|V|##|y/V => no
 x V.../f|,|##|x/x => no
 V.../__VA_OPT__|(|a|)/V => yes
 V.../#|__VA_OPT__|(|a|)/V => yes
+a b c d e f g h i V.../a|##|b|c|,|##|V/a => no
+a b c d e f g h i V.../a|##|b|c|,|##|V/c => yes
+a b c d e f g h i V.../a|##|b|c|,|##|V/d => no
+a b c d e f g h i V.../a|##|b|c|,|##|V/V => yes
 x V.../__VA_OPT__|(|x|)/x => yes
 x V.../__VA_OPT__|(|a|)/x => no",
     )
@@ -74,6 +78,9 @@ x y/#|y|x/y => yes
 V.../f|,|##|V/V => yes
 V.../f|(|V|)/V => no
 V.../__VA_OPT__|(|#|V|)/V => yes
+a b c d e f g h i/#|b|c|##|d|a/b => yes
+a b c d e f g h i/#|b|c|##|d|a/d => yes
+a b c d e f g h i/#|b|c|##|d|a/a => no
 x V.../x|__VA_OPT__|(|a|)|##|b/x => no",
     )
 }

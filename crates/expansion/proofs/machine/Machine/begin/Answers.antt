@@ -7,7 +7,7 @@ use Rattle.expansion.proofs.machine.Machine.begin.Goals as goal
 pub returns : goal.returns
 returns c =
     let call = c.args.call in
-    let f = call.definition.now in
+    let f = call.definition in
     let m = c.args.self.now in
     λ e. begin-goes e m call c.in_ok-written.written c.push.new.self c.new.result c.requires.valid c.requires.call c.requires.another
     (ap (is_replaced f) (sym c.requires.name) ∙ c.requires.replaced)

@@ -10,7 +10,7 @@ use Rattle.expansion.proofs.machine.Machine.finish.Goals as goal
 
 pub substitute_function-requires : goal.substitute_function-requires
 substitute_function-requires c =
-    AreArgs-all c.args.self.now.sets (length (names_of c.args.call.definition.now)) c.args.call.args.items _ (c.as_slice.ensures.value ∙ c.in_ok-args.ensures) c.requires.call.args
+    AreArgs-all c.args.self.now.sets (length (names_of c.args.call.definition)) c.args.call.args.items _ (c.as_slice.ensures.value ∙ c.in_ok-args.ensures) c.requires.call.args
 
 pub rescan-requires-clause-valid : goal.rescan-requires-clause-valid
 rescan-requires-clause-valid c =
@@ -32,6 +32,6 @@ returns c =
     (λ e. rescanned-grown e (record m { out = call.before }) c.also.new.self _ _ _ _ (Extends-on _ _ _ c.substitute_function.ensures.extended later)
     (IsMachine-at m call _ c.requires.valid c.requires.call)
     (common-added _ _ _ _ call.name call.close _ _ _ c.substitute_function.ensures.extended c.requires.call.name c.requires.call.close c.in_ok-common.ensures.ok c.in_ok-added.ensures.ok c.as_slice-2.ensures)
-    (given.meant ∙ ap (λ (args : List Arg). subst (function_call m.sets call.definition.now args call.name.tok.line) call.name.tok.space call.definition.now.body) c.as_slice.ensures.value)
+    (given.meant ∙ ap (λ (args : List Arg). subst (function_call m.sets call.definition args call.name.tok.line) call.name.tok.space call.definition.body) c.as_slice.ensures.value)
     ∙ called_on-done e m call c.in_ok-args.args.items c.requires.none c.in_ok-args.ensures)
     (omega arith) c.rescan.ensures

@@ -24,12 +24,12 @@ returns-in_default c =
 pub goes_out-requires-clause-valid : goal.goes_out-requires-clause-valid
 goes_out-requires-clause-valid c = IsMachine-taken (scope_of c.args.scope.now) c.args.self.now c.in-Some.token c.next.new.self c.in-Some.ensures c.requires
 
-pub returns-then-not-is_identifier : goal.returns-then-not-is_identifier
-returns-then-not-is_identifier c =
+pub returns-then-not-is_ident : goal.returns-then-not-is_ident
+returns-then-not-is_ident c =
     let e = scope_of c.args.scope.now in
     turns-at c.goes_out.result e _ _ _ _ _
     (sym (ran_of-taken e c.args.self.now c.in-Some.token c.next.new.self c.in-Some.ensures c.requires
-    ∙ ap (continued e (record c.args.self.now { todo = c.next.new.self })) (first-other e _ _ _ _ (sym c.is_identifier.ensures ∙ c.if-not-is_identifier.true))))
+    ∙ ap (continued e (record c.args.self.now { todo = c.next.new.self })) (first-other e _ _ _ _ (sym c.is_ident.ensures ∙ c.if-not-is_ident.true))))
     (omega (arith, weight-taken e c.args.self.now c.in-Some.token c.next.new.self c.in-Some.ensures)) c.goes_out.ensures
 
 pub defined-requires-clause-valid : goal.defined-requires-clause-valid
@@ -40,7 +40,7 @@ returns-then-is_defined_operator c =
     let e = scope_of c.args.scope.now in
     turns-on c.defined.result e _ _ _ _ _
     (sym (ran_of-taken e c.args.self.now c.in-Some.token c.next.new.self c.in-Some.ensures c.requires
-    ∙ ap (continued e (record c.args.self.now { todo = c.next.new.self })) (first-defined e _ _ _ _ (sym c.is_identifier.ensures ∙ c.if-not-is_identifier.false) (sym c.is_defined_operator.ensures ∙ c.if-is_defined_operator.true))))
+    ∙ ap (continued e (record c.args.self.now { todo = c.next.new.self })) (first-defined e _ _ _ _ (sym c.is_ident.ensures ∙ c.if-not-is_ident.false) (sym c.is_defined_operator.ensures ∙ c.if-is_defined_operator.true))))
     (omega (arith, weight-taken e c.args.self.now c.in-Some.token c.next.new.self c.in-Some.ensures)) c.defined.ensures
 
 pub goes_out-requires-then-hides-clause-valid : goal.goes_out-requires-then-hides-clause-valid
@@ -51,7 +51,7 @@ returns-then-hides c =
     let e = scope_of c.args.scope.now in
     turns-at c.goes_out-then-hides.result e _ _ _ _ _
     (sym (ran_of-taken e c.args.self.now c.in-Some.token c.next.new.self c.in-Some.ensures c.requires
-    ∙ ap (continued e (record c.args.self.now { todo = c.next.new.self })) (first-hidden e _ _ _ _ (sym c.is_identifier.ensures ∙ c.if-not-is_identifier.false) (sym c.is_defined_operator.ensures ∙ c.if-is_defined_operator.false) (ap (hides_of c.args.self.now.sets c.in-Some.token.hides) (sym c.as_slice.ensures) ∙ sym c.hides.ensures ∙ c.if-hides.true))))
+    ∙ ap (continued e (record c.args.self.now { todo = c.next.new.self })) (first-hidden e _ _ _ _ (sym c.is_ident.ensures ∙ c.if-not-is_ident.false) (sym c.is_defined_operator.ensures ∙ c.if-is_defined_operator.false) (ap (hides_of c.args.self.now.sets c.in-Some.token.hides) (sym c.as_slice.ensures) ∙ sym c.hides.ensures ∙ c.if-hides.true))))
     (omega (arith, weight-taken e c.args.self.now c.in-Some.token c.next.new.self c.in-Some.ensures)) c.goes_out-then-hides.ensures
 
 pub replace_name-requires-clause-valid : goal.replace_name-requires-clause-valid
@@ -62,5 +62,5 @@ returns c =
     let e = scope_of c.args.scope.now in
     turns-on c.replace_name.result e _ _ _ _ _
     (sym (ran_of-taken e c.args.self.now c.in-Some.token c.next.new.self c.in-Some.ensures c.requires
-    ∙ ap (continued e (record c.args.self.now { todo = c.next.new.self })) (first-named e _ _ _ _ (sym c.is_identifier.ensures ∙ c.if-not-is_identifier.false) (sym c.is_defined_operator.ensures ∙ c.if-is_defined_operator.false) (ap (hides_of c.args.self.now.sets c.in-Some.token.hides) (sym c.as_slice.ensures) ∙ sym c.hides.ensures ∙ c.if-hides.false))))
+    ∙ ap (continued e (record c.args.self.now { todo = c.next.new.self })) (first-named e _ _ _ _ (sym c.is_ident.ensures ∙ c.if-not-is_ident.false) (sym c.is_defined_operator.ensures ∙ c.if-is_defined_operator.false) (ap (hides_of c.args.self.now.sets c.in-Some.token.hides) (sym c.as_slice.ensures) ∙ sym c.hides.ensures ∙ c.if-hides.false))))
     (omega (arith, weight-taken e c.args.self.now c.in-Some.token c.next.new.self c.in-Some.ensures)) c.replace_name.ensures
