@@ -1,5 +1,5 @@
 -- How the climb goes on from one call to the next.
-use Rattle.std.proofs.Common.{◌≡◌, ℕ, ◌+◌, ◌-◌, ◌<◌, ◌≤◌, zero, suc, Bool, true, false, List, [], ◌∷◌, ◌++◌, length, take, drop, get_or, ap, sym, ◌∙◌, refl, arith, length-append}
+use Rattle.std.proofs.Common.{◌≡◌, ℕ, ◌+◌, ◌-◌, ◌<◌, ◌≤◌, zero, suc, Bool, true, false, List, [], ◌∷◌, ◌++◌, length, take, get_or, ap, sym, subst, ◌∙◌, refl, arith, length-append}
 use Rattle.std.proofs.lemmas.List.{take_more}
 use Rattle.std.specs.Prelude.{Option, Some, None, is_some}
 use Rattle.std.specs.Option.{option_map, option_map_or, option_and_then}
@@ -8,128 +8,63 @@ use Rattle.std.proofs.lemmas.List.Elements.{All-head, All-tail}
 use Rattle.scan_model.specs.declared.token.Tok.{Tok}
 use Rattle.scan_model.specs.TokenTests.{begins_with}
 use Rattle.scan_model.specs.Literals.{integer}
-use Rattle.scan_model.specs.ConditionTree.{Binary, Unary, Spelt, levels, operator_of, unary_operators}
+use Rattle.scan_model.specs.ConditionTree.{Binary, Unary, levels, operator_of, unary_operators}
 use Rattle.scan_model.specs.ConditionValue.{of_bool}
 use Rattle.scan_model.specs.Condition.{has_literal}
-use Rattle.if_values.specs.declared.operators.Level.{Level}
-use Rattle.if_values.specs.declared.operators.Level.TheVariants.{Disjunction, Conjunction, InclusiveOr, ExclusiveOr, BitwiseAnd, Equality, Relation, Shift, Sum, Product}
 use Rattle.if_values.specs.declared.operand.Operand.{Operand}
 use Rattle.if_values.specs.declared.marks.Mark.TheVariants.{Question, Colon}
-use Rattle.if_values.specs.Levels.{number_of, operators_at, levels_from}
-use Rattle.if_values.specs.Items.{first_of}
-use Rattle.if_values.specs.Marks.{is_mark, Passes, PassesOperator}
+use Rattle.if_values.specs.Levels.{level_of, levels_from}
+use Rattle.if_values.specs.Marks.{is_mark, Passes, PassesOperator, IsPast}
 use Rattle.if_values.specs.UnaryRows.{is_unary_operator, prefixed_by}
 use Rattle.if_values.specs.Operands.{literal_operand, prefix_operand, infix_operand, choice_operand}
-use Rattle.if_values.specs.Reading.{Read, Reader, reading, prefixed_read, unary_read, more_read, binary_read, first_read, primary_read, other_read, choice_read, conditional_read, Gives, ReadsConditional, ReadsFirst, ReadsLevels}
+use Rattle.if_values.specs.Reading.{Read, Reader, reading, prefixed_read, unary_read, binary_read, first_read, primary_read, other_read, choice_read, conditional_read, Gives, ReadsConditional, ReadsFirst, ReadsLevels}
+use Rattle.if_values.proofs.LevelLemmas.{Resumes, resumes-init, resumes-end, binary-none-at, climbs-on, climbs-off}
 
-pub number_small : (level : Level) → number_of level ≤ 9
-number_small Disjunction = omega arith
-number_small Conjunction = omega arith
-number_small InclusiveOr = omega arith
-number_small ExclusiveOr = omega arith
-number_small BitwiseAnd = omega arith
-number_small Equality = omega arith
-number_small Relation = omega arith
-number_small Shift = omega arith
-number_small Sum = omega arith
-number_small Product = omega arith
+-- ---- the operands of a level and the tighter ones
 
-abbrev tail_of : Level → List (List (Spelt Binary))
-tail_of level = drop 1 (levels_from level)
-
-levels-split : (level : Level) → levels_from level ≡ operators_at level ∷ tail_of level
-levels-split Disjunction = refl
-levels-split Conjunction = refl
-levels-split InclusiveOr = refl
-levels-split ExclusiveOr = refl
-levels-split BitwiseAnd = refl
-levels-split Equality = refl
-levels-split Relation = refl
-levels-split Shift = refl
-levels-split Sum = refl
-levels-split Product = refl
-
--- ---- the operands of a level
-
--- the operand that a level starts with, at any fuel that suffices
-abbrev then_more : Level → ℕ → Reader → Read → Option Read
-then_more level k operand r = more_read k (operators_at level) (binary_read (tail_of level) operand) r.operand r.after
-
-binary-split : (level : Level) (operand : Reader) (ts : List Tok) → binary_read (levels_from level) operand ts ≡ option_and_then (then_more level (length ts) operand) (binary_read (tail_of level) operand ts)
-binary-split level operand ts = ap (λ ls. binary_read ls operand ts) (levels-split level)
-
--- A left operand of the level has been read, with further ones to come.
-pub record Climbs (level : Level) (start at : List Tok) (left : Operand) : Type 0 where
-  pub fuel : ℕ
-  pub enough : length at ≤ fuel
+-- A left operand has been read, with further ones of the levels to come.
+pub record Climbs (level : ℕ) (start at : List Tok) (left : Operand) : Type 0 where
   pub shorter : length at < length start
-  pub same : (m n : ℕ) → length start ≤ m → length start ≤ n → binary_read (levels_from level) (unary_read m (conditional_read n)) start ≡ more_read fuel (operators_at level) (binary_read (drop 1 (levels_from level)) (unary_read m (conditional_read n))) left at
+  pub same : (m n : ℕ) → length start ≤ m → length start ≤ n → Resumes (levels_from level) (unary_read m (conditional_read n)) (binary_read (levels_from level) (unary_read m (conditional_read n)) start) left at
 
-pub climbs-init : (level : Level) (start at : List Tok) (left : Operand) → ReadsLevels (drop 1 (levels_from level)) start (Some left) at → length at < length start → Climbs level start at left
+pub climbs-init : (level : ℕ) (start at : List Tok) (left : Operand) → ReadsLevels [] start (Some left) at → length at < length start → Climbs level start at left
 climbs-init level start at left h k = record {
-  fuel = length start;
-  enough = omega arith;
   shorter = k;
-  same = λ m n p q. binary-split level (unary_read m (conditional_read n)) start ∙ ap (option_and_then (then_more level (length start) (unary_read m (conditional_read n)))) (h m n p q);
+  same = λ m n p q. resumes-init (levels_from level) (unary_read m (conditional_read n)) start at left (h m n p q) (omega arith);
 }
 
-pub binary-none : (level : Level) (start at new : List Tok) → ReadsLevels (drop 1 (levels_from level)) start None at → ReadsLevels (levels_from level) start None new
-binary-none level start at new h m n p q = binary-split level (unary_read m (conditional_read n)) start ∙ ap (option_and_then (then_more level (length start) (unary_read m (conditional_read n)))) (h m n p q)
+pub binary-none : (level : ℕ) (start at new : List Tok) → ReadsLevels [] start None at → ReadsLevels (levels_from level) start None new
+binary-none level start at new h m n p q = binary-none-at (levels_from level) (unary_read m (conditional_read n)) start (h m n p q)
 
-more-operator : (k : ℕ) (ops : List (Spelt Binary)) (operand : Reader) (left : Operand) (t : Tok) (ts : List Tok) (op : Binary) → operator_of ops t ≡ Some op
-    → more_read (suc k) ops operand left (t ∷ ts) ≡ option_and_then (λ r. more_read k ops operand (infix_operand op left r.operand) r.after) (operand ts)
-more-operator k ops operand left t ts op e = rw e refl
+-- what was to come in front of the operator's token
+at-token : (level : ℕ) (start at at1 : List Tok) (left : Operand) (op : Binary) → Climbs level start at left → (p : PassesOperator level at (Some op) at1) → Climbs level start (p.0 ∷ at1) left
+at-token level start at at1 left op c p = subst (λ ts. Climbs level start ts left) p.1 c
 
-more-end : (k : ℕ) (ops : List (Spelt Binary)) (operand : Reader) (left : Operand) (ts : List Tok) → option_and_then (operator_of ops) (first_of ts) ≡ None → more_read k ops operand left ts ≡ Some (reading ts left)
-more-end zero ops operand left ts e = refl
-more-end (suc k) ops operand left [] e = refl
-more-end (suc k) ops operand left (t ∷ ts) e = rw e refl
-
--- what one more operator leaves of a level
-abbrev NextOf : Level → List Tok → List Tok → Operand → Binary → List Tok → Type 0
-NextOf level start at left op at1 =
-    (k : ℕ) × (length at1 ≤ k) × ((m n : ℕ) → length start ≤ m → length start ≤ n → binary_read (levels_from level) (unary_read m (conditional_read n)) start
-    ≡ option_and_then (λ r. more_read k (operators_at level) (binary_read (tail_of level) (unary_read m (conditional_read n))) (infix_operand op left r.operand) r.after) (binary_read (tail_of level) (unary_read m (conditional_read n)) at1))
-
-next_by : (level : Level) (start at at1 : List Tok) (left : Operand) (op : Binary) (t : Tok) (fuel : ℕ) → length at ≤ fuel
-    → ((m n : ℕ) → length start ≤ m → length start ≤ n → binary_read (levels_from level) (unary_read m (conditional_read n)) start ≡ more_read fuel (operators_at level) (binary_read (tail_of level) (unary_read m (conditional_read n))) left at)
-    → at ≡ t ∷ at1 → operator_of (operators_at level) t ≡ Some op → NextOf level start at left op at1
-next_by level start at at1 left op t zero h same e f = absurd (omega (arith, ap length e))
-next_by level start at at1 left op t (suc k) h same e f = (
-  k,
-  omega (arith, ap length e),
-  λ m n p q. same m n p q ∙ (ap (more_read (suc k) (operators_at level) (binary_read (tail_of level) (unary_read m (conditional_read n))) left) e
-      ∙ more-operator k (operators_at level) (binary_read (tail_of level) (unary_read m (conditional_read n))) left t at1 op f),
-)
-
-next_of : (level : Level) (start at at1 : List Tok) (left : Operand) (op : Binary) → Climbs level start at left → PassesOperator (operators_at level) at (Some op) at1 → NextOf level start at left op at1
-next_of level start at at1 left op c p = next_by level start at at1 left op p.0 c.fuel c.enough c.same p.1 p.2
-
-pub passed_shorter : (ops : List (Spelt Binary)) (at at1 : List Tok) (op : Binary) → PassesOperator ops at (Some op) at1 → length at1 < length at
-passed_shorter ops at at1 op p = omega (arith, ap length p.1)
-
-pub climbs-step : (level : Level) (start at at1 at2 : List Tok) (left right : Operand) (op : Binary) → Climbs level start at left → PassesOperator (operators_at level) at (Some op) at1 → ReadsLevels (drop 1 (levels_from level)) at1 (Some right) at2 → length at2 < length at1 → Climbs level start at2 (infix_operand op left right)
-climbs-step level start at at1 at2 left right op c p h l =
-    let next = next_of level start at at1 left op c p in
-    let short : length at1 < length at = passed_shorter (operators_at level) at at1 op p in
-    let below : length at < length start = c.shorter in
+pub climbs-step : (level : ℕ) (start at at1 at2 : List Tok) (left right : Operand) (op : Binary) → Climbs level start at left → PassesOperator level at (Some op) at1 → level_of op < 10
+    → ReadsLevels (levels_from (level_of op + 1)) at1 (Some right) at2 → length at2 < length at1 → IsPast (levels_from (level_of op + 1)) at2 → Climbs level start at2 (infix_operand op left right)
+climbs-step level start at at1 at2 left right op c p small h l q =
+    let whole = at-token level start at at1 left op c p in
+    let below : length (p.0 ∷ at1) < length start = whole.shorter in
     record {
-      fuel = next.0;
-      enough = let k : length at1 ≤ next.0 = next.1 in omega arith;
       shorter = omega arith;
-      same = λ m n u v. next.2 m n u v ∙ ap (option_and_then (λ (r : Read). more_read next.0 (operators_at level) (binary_read (tail_of level) (unary_read m (conditional_read n))) (infix_operand op left r.operand) r.after)) (h m n (omega arith) (omega arith));
+      same = λ m n u v. climbs-on level (unary_read m (conditional_read n)) (binary_read (levels_from level) (unary_read m (conditional_read n)) start) left right p.0 at1 at2 op p.2 small p.3
+          (h m n (omega arith) (omega arith)) q (omega arith) (whole.same m n u v);
     }
 
-pub climbs-fail : (level : Level) (start at at1 at2 new : List Tok) (left : Operand) (op : Binary) → Climbs level start at left → PassesOperator (operators_at level) at (Some op) at1 → ReadsLevels (drop 1 (levels_from level)) at1 None at2 → ReadsLevels (levels_from level) start None new
-climbs-fail level start at at1 at2 new left op c p h m n u v =
-    let next = next_of level start at at1 left op c p in
-    let short : length at1 < length at = passed_shorter (operators_at level) at at1 op p in
-    let below : length at < length start = c.shorter in
-    next.2 m n u v ∙ ap (option_and_then (λ (r : Read). more_read next.0 (operators_at level) (binary_read (tail_of level) (unary_read m (conditional_read n))) (infix_operand op left r.operand) r.after)) (h m n (omega arith) (omega arith))
+pub climbs-fail : (level : ℕ) (start at at1 at2 new : List Tok) (left : Operand) (op : Binary) → Climbs level start at left → PassesOperator level at (Some op) at1 → level_of op < 10
+    → ReadsLevels (levels_from (level_of op + 1)) at1 None at2 → ReadsLevels (levels_from level) start None new
+climbs-fail level start at at1 at2 new left op c p small h m n u v =
+    let whole = at-token level start at at1 left op c p in
+    let below : length (p.0 ∷ at1) < length start = whole.shorter in
+    climbs-off level (unary_read m (conditional_read n)) (binary_read (levels_from level) (unary_read m (conditional_read n)) start) left p.0 at1 op p.2 small p.3
+    (h m n (omega arith) (omega arith)) (whole.same m n u v)
 
-pub climbs-end : (level : Level) (start at new : List Tok) (left : Operand) → Climbs level start at left → PassesOperator (operators_at level) at None new → ReadsLevels (levels_from level) start (Some left) new
+pub climbs-end : (level : ℕ) (start at new : List Tok) (left : Operand) → Climbs level start at left → PassesOperator level at None new → ReadsLevels (levels_from level) start (Some left) new
 climbs-end level start at new left c p m n u v =
-    c.same m n u v ∙ (more-end c.fuel (operators_at level) (binary_read (tail_of level) (unary_read m (conditional_read n))) left at p.1 ∙ ap (λ ts. Some (reading ts left)) (sym p.0))
+    resumes-end (levels_from level) (unary_read m (conditional_read n)) (binary_read (levels_from level) (unary_read m (conditional_read n)) start) left at p.1 (c.same m n u v) ∙ ap (λ ts. Some (reading ts left)) (sym p.0)
+
+pub climbs-past : (level : ℕ) (at new : List Tok) → PassesOperator level at None new → IsPast (levels_from level) new
+climbs-past level at new p = subst (IsPast (levels_from level)) (sym p.0) p.1
 
 -- ---- the choice
 

@@ -3,6 +3,8 @@ pub mod CharacterLemmas
 pub mod NameLemmas
 pub mod KnownLemmas
 pub mod ReadingLemmas
+pub mod LevelLemmas
 pub mod ClimbLemmas
 pub mod LeafLemmas
 pub mod ValueLemmas
+pub mod WalkLemmas

@@ -1,25 +1,38 @@
--- The levels of the binary operators.
-use Rattle.std.specs.Prelude.{ℕ, List, [], slice_index_or, drop}
-use Rattle.scan_model.specs.ConditionTree.{Binary, Spelt, levels}
-use Rattle.if_values.specs.declared.operators.Level.{Level}
-use Rattle.if_values.specs.declared.operators.Level.TheVariants.{Disjunction, Conjunction, InclusiveOr, ExclusiveOr, BitwiseAnd, Equality, Relation, Shift, Sum, Product}
+-- The levels of the binary operators, numbered from the loosest.
+use Rattle.std.specs.Prelude.{ℕ, List, drop, length, map, replicate, set, Option, Some, None}
+use Rattle.scan_model.specs.declared.token.Tok.{Tok}
+use Rattle.scan_model.specs.ConditionTree.{Binary, OrElse, AndAlso, BitOr, BitXor, BitAnd, Equal, Unequal, Less, Greater, AtMost, AtLeast, ShiftLeft, ShiftRight, Plus, Minus, Times, Over, Modulo, Spelt, levels, operator_of}
 
--- how many looser levels there are
-abbrev pub number_of : Level → ℕ
-number_of Disjunction = 0
-number_of Conjunction = 1
-number_of InclusiveOr = 2
-number_of ExclusiveOr = 3
-number_of BitwiseAnd = 4
-number_of Equality = 5
-number_of Relation = 6
-number_of Shift = 7
-number_of Sum = 8
-number_of Product = 9
+-- how many levels are looser than the operator's
+abbrev pub level_of : Binary → ℕ
+level_of OrElse = 0
+level_of AndAlso = 1
+level_of BitOr = 2
+level_of BitXor = 3
+level_of BitAnd = 4
+level_of Equal = 5
+level_of Unequal = 5
+level_of Less = 6
+level_of Greater = 6
+level_of AtMost = 6
+level_of AtLeast = 6
+level_of ShiftLeft = 7
+level_of ShiftRight = 7
+level_of Plus = 8
+level_of Minus = 8
+level_of Times = 9
+level_of Over = 9
+level_of Modulo = 9
 
-abbrev pub operators_at : Level → List (Spelt Binary)
-operators_at level = slice_index_or levels (number_of level) []
+-- the level of this number and the tighter ones
+abbrev pub levels_from : ℕ → List (List (Spelt Binary))
+levels_from level = drop level levels
 
--- the level and the tighter ones
-abbrev pub levels_from : Level → List (List (Spelt Binary))
-levels_from level = drop (number_of level) levels
+-- what the token is at each level
+abbrev pub at_levels : Tok → List (Option Binary)
+at_levels t = map (λ ops. operator_of ops t) levels
+
+-- an operator at its own level and none at the others, or none at all
+abbrev pub only_at_its_level : Option Binary → List (Option Binary)
+only_at_its_level None = replicate (length levels) None
+only_at_its_level (Some op) = set (replicate (length levels) None) (level_of op) (Some op)

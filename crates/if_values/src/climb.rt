@@ -1,5 +1,6 @@
-ghost use Rattle.std.specs.Prelude.{◌≡◌, ◌<◌, ◌≤◌, [], drop, length, OnSome};
+ghost use Rattle.std.specs.Prelude.{◌≡◌, ◌<◌, ◌≤◌, [], length, OnSome};
 ghost use Rattle.if_values.specs.Levels.{levels_from};
+ghost use Rattle.if_values.specs.Marks.{IsPast};
 ghost use Rattle.if_values.specs.UnaryRows.{prefixed_by};
 ghost use Rattle.if_values.specs.Reading.{ReadsConditional, ReadsInParens, ReadsFirst, ReadsLevels};
 
@@ -7,8 +8,7 @@ use crate::known_tokens::{Item, KnownTokens};
 use crate::leaves::{known_leaf, leaf};
 use crate::marks::{Mark, pass, pass_operator};
 use crate::operand::{Operand, choice, infix, prefixed};
-use crate::operators::{Level, unary_operator};
-use crate::token_tests::is_open_paren;
+use crate::operators::unary_operator;
 use scan_model::Tok;
 
 // The operators of a row before an operand. The row is walked backwards in a loop, so that a long one needs no stack.
@@ -36,7 +36,7 @@ pub(crate) fn conditional(at: &mut KnownTokens<'_>) -> Option<Operand>
     ensures value { ReadsConditional at.old result at.new }
     ensures shorter { OnSome result (length at.new < length at.old) }
 {
-    let condition = binary(Level::Disjunction, at)?;
+    let condition = binary(0, at)?;
     if !pass(at, Mark::Question) {
         return Some(condition);
     }
@@ -48,30 +48,20 @@ pub(crate) fn conditional(at: &mut KnownTokens<'_>) -> Option<Operand>
     Some(choice(condition, chosen, other))
 }
 
-// Operands of a level and the tighter ones, grouped to the left.
+// Operands with operators of this level and of the tighter ones between them; 0 is the loosest level. The right operand of
+// an operator is read from the next tighter level on, so that operators of one level group to the left.
 #[cycle(climb)]
-fn binary(level: Level, at: &mut KnownTokens<'_>) -> Option<Operand>
+fn binary(level: u32, at: &mut KnownTokens<'_>) -> Option<Operand>
     ensures value { ReadsLevels (levels_from level) at.old result at.new }
     ensures shorter { OnSome result (length at.new < length at.old) }
+    ensures past { OnSome result (IsPast (levels_from level) at.new) }
 {
-    let mut left = tighter(level, at)?;
+    let mut left = unary(at)?;
     'operands: while let Some(operator) = pass_operator(at, level) {
-        let right = tighter(level, at)?;
+        let right = binary(operator.level() + 1, at)?;
         left = infix(operator, left, right);
     }
     Some(left)
-}
-
-// An operand of this level.
-#[cycle(climb)]
-fn tighter(level: Level, at: &mut KnownTokens<'_>) -> Option<Operand>
-    ensures value { ReadsLevels (drop 1 (levels_from level)) at.old result at.new }
-    ensures shorter { OnSome result (length at.new < length at.old) }
-{
-    match level.tighter() {
-        Some(next) => binary(next, at),
-        None => unary(at),
-    }
 }
 
 #[cycle(climb)]
@@ -91,7 +81,7 @@ fn primary(at: &mut KnownTokens<'_>) -> Option<Operand>
 {
     match at.next() {
         Some(Item::Plain(tok)) => {
-            if is_open_paren(tok) {
+            if tok.is_open_paren() {
                 in_parens(at)
             } else {
                 leaf(tok, at)

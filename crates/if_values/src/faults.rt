@@ -11,9 +11,7 @@ use crate::characters::character_value;
 use crate::integer::integer;
 use crate::known_tokens::{Item, KnownTokens};
 use crate::operators::is_operator;
-use crate::token_tests::{
-    is_bang_or_tilde, is_close_paren, is_colon, is_open_paren, is_plus_or_minus, is_question,
-};
+use crate::token_tests::{is_bang_or_tilde, is_colon, is_plus_or_minus, is_question};
 use scan_model::{Kind, Tok};
 
 fn is_bad_literal(tok: &Tok) -> bool
@@ -55,9 +53,9 @@ fn depth_after(tok: &Tok, depth: u32) -> u32
     ensures value { result ≡ depth_after tok.now depth }
     ensures small { result ≤ 257 }
 {
-    if is_open_paren(tok) {
+    if tok.is_open_paren() {
         depth + 1
-    } else if is_close_paren(tok) {
+    } else if tok.is_close_paren() {
         depth.saturating_sub(1)
     } else {
         depth
@@ -69,7 +67,7 @@ fn opens_operand(before: Option<&Tok>) -> bool
 {
     match before {
         None => true,
-        Some(tok) => is_operator(tok) | is_open_paren(tok) | is_question(tok) | is_colon(tok),
+        Some(tok) => is_operator(tok) | tok.is_open_paren() | is_question(tok) | is_colon(tok),
     }
 }
 

@@ -3,9 +3,7 @@ ghost use Rattle.std.specs.Option.{option_map};
 ghost use Rattle.scan_model.specs.HeaderName.{form_of, name_of, angled, header_or_name, has_name, has_at, next_has};
 ghost use Rattle.if_values.specs.Names.{shape, name_shape, past_angle};
 
-use crate::token_tests::{
-    is_close_paren, is_greater, is_has, is_has_next, is_less, is_open_paren, is_plain_string,
-};
+use crate::token_tests::{is_greater, is_has, is_has_next, is_less};
 use scan_model::{Form, HasAt, HasNext, Kind, Tok};
 
 /// The form of a header's name, and what follows the name ([cpp.include]).
@@ -53,7 +51,7 @@ fn name_of(toks: &[Tok]) -> Option<Name<'_>>
     if is_less(&toks[0]) {
         return angled(&toks[1..]);
     }
-    if is_plain_string(&toks[0]) && toks[0].text.as_slice().len() > 2 {
+    if toks[0].is_plain_string() && toks[0].text.as_slice().len() > 2 {
         Some(Name {
             form: Form::Quoted,
             after: &toks[1..],
@@ -97,11 +95,11 @@ pub(crate) fn has_name(toks: &[Tok]) -> Option<Name<'_>>
     ensures within { IfSome result (λ n. length n.after.now + 2 ≤ length toks.now) }
     ensures closed { IfSome result (λ n. 0 < length n.after.now) }
 {
-    if toks.is_empty() || !is_open_paren(&toks[0]) {
+    if toks.is_empty() || !toks[0].is_open_paren() {
         return None;
     }
     let name = header_or_name(&toks[1..])?;
-    if name.after.is_empty() || !is_close_paren(&name.after[0]) {
+    if name.after.is_empty() || !name.after[0].is_close_paren() {
         return None;
     }
     Some(name)

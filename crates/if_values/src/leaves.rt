@@ -14,10 +14,7 @@ use crate::characters::character_value;
 use crate::integer::integer;
 use crate::known_tokens::{Item, KnownTokens};
 use crate::operand::{Operand, literal};
-use crate::token_tests::{
-    is_close_paren, is_defined, is_double_colon, is_has, is_has_attribute, is_identifier,
-    is_open_paren, is_true,
-};
+use crate::token_tests::{is_defined, is_double_colon, is_has, is_has_attribute, is_true};
 use scan_model::{CondValue, Kind, Tok};
 use word_table::attribute_value;
 
@@ -43,7 +40,7 @@ fn attribute_named(item: Item<'_>) -> Option<u32>
 {
     match item {
         Item::Plain(tok) => {
-            if is_identifier(tok) {
+            if tok.is_ident() {
                 Some(attribute_value(tok.text.as_slice()).unwrap_or(0))
             } else {
                 None
@@ -57,7 +54,7 @@ fn is_open(item: Item<'_>) -> bool
     ensures { result ≡ is_open_paren (token_of item.entry) }
 {
     match item {
-        Item::Plain(tok) => is_open_paren(tok),
+        Item::Plain(tok) => tok.is_open_paren(),
         Item::Has(_) => false,
     }
 }
@@ -66,7 +63,7 @@ fn is_close(item: Item<'_>) -> bool
     ensures { result ≡ is_close_paren (token_of item.entry) }
 {
     match item {
-        Item::Plain(tok) => is_close_paren(tok),
+        Item::Plain(tok) => tok.is_close_paren(),
         Item::Has(_) => false,
     }
 }
@@ -84,7 +81,7 @@ fn is_name(item: Item<'_>) -> bool
     ensures { result ≡ is_of Ident (token_of item.entry) }
 {
     match item {
-        Item::Plain(tok) => is_identifier(tok),
+        Item::Plain(tok) => tok.is_ident(),
         Item::Has(_) => false,
     }
 }

@@ -1,14 +1,13 @@
 ghost use Rattle.std.specs.Prelude.{◌≡◌};
 ghost use Rattle.std.specs.Option.{option_map};
 ghost use Rattle.if_values.specs.Operators.{binary_of};
-ghost use Rattle.if_values.specs.Levels.{operators_at};
+ghost use Rattle.if_values.specs.Levels.{at_levels, only_at_its_level};
 ghost use Rattle.if_values.specs.Items.{token_of, first_of};
 ghost use Rattle.if_values.specs.Marks.{is_mark, Passes, PassesOperator};
-ghost use Rattle.scan_model.specs.ConditionTree.{operator_of};
 
 use crate::known_tokens::{Item, KnownTokens};
-use crate::operators::{Binary, Level, binary_operator};
-use crate::token_tests::{is_close_paren, is_colon, is_question};
+use crate::operators::{Binary, binary_operator};
+use crate::token_tests::{is_colon, is_question};
 
 /// What stands between the parts of a condition.
 #[derive(Clone, Copy)]
@@ -25,7 +24,7 @@ fn is_mark(mark: Mark, item: Item<'_>) -> bool
         Item::Plain(tok) => match mark {
             Mark::Question => is_question(tok),
             Mark::Colon => is_colon(tok),
-            Mark::Close => is_close_paren(tok),
+            Mark::Close => tok.is_close_paren(),
         },
         Item::Has(_) => false,
     }
@@ -47,25 +46,24 @@ pub(crate) fn pass(at: &mut KnownTokens<'_>, mark: Mark) -> bool
     }
 }
 
-fn operator_of(level: Level, item: Item<'_>) -> Option<Binary>
-    ensures { option_map binary_of result ≡ operator_of (operators_at level) (token_of item.entry) }
+fn operator_of(item: Item<'_>) -> Option<Binary>
+    ensures { at_levels (token_of item.entry) ≡ only_at_its_level (option_map binary_of result) }
 {
     match item {
-        Item::Plain(tok) => binary_operator(level, tok),
+        Item::Plain(tok) => binary_operator(tok),
         Item::Has(_) => None,
     }
 }
 
-/// Passes a binary operator of this level, if one stands next, and tells which one.
-pub(crate) fn pass_operator(at: &mut KnownTokens<'_>, level: Level) -> Option<Binary>
-    ensures { PassesOperator (operators_at level) at.old (option_map binary_of result) at.new }
+/// Passes a binary operator of this level or a tighter one, if one stands next, and tells which one.
+pub(crate) fn pass_operator(at: &mut KnownTokens<'_>, level: u32) -> Option<Binary>
+    ensures { PassesOperator level at.old (option_map binary_of result) at.new }
 {
-    match at.peek() {
-        Some(item) => {
-            let operator = operator_of(level, item)?;
-            at.next();
-            Some(operator)
-        }
-        None => None,
+    let item = at.peek()?;
+    let operator = operator_of(item)?;
+    if operator.level() < level {
+        return None;
     }
+    at.next();
+    Some(operator)
 }

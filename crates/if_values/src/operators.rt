@@ -1,13 +1,10 @@
-ghost use Rattle.std.specs.Prelude.{◌≡◌, ◌&&◌, ◌||◌, nat_eq, [], ◌∷◌, is_some, Some, None, IfSome, ◌+◌, if◌then◌else◌};
-ghost use lib.Pointwise.{pointwise};
-ghost use Rattle.scan_model.specs.TokenTests.{is_of};
-ghost use Rattle.scan_model.specs.declared.token.Kind.TheVariants.{Punct};
-ghost use Rattle.std.specs.Option.{option_map, option_map_or};
+ghost use Rattle.std.specs.Prelude.{◌≡◌, ◌≤◌};
+ghost use Rattle.std.specs.Option.{option_map};
 ghost use Rattle.scan_model.specs.ConditionTree.{operator_of, unary_operators};
 ghost use Rattle.scan_model.specs.Condition.{is_operator};
 ghost use Rattle.if_values.specs.Operators.{binary_of, unary_of};
 ghost use Rattle.if_values.specs.UnaryRows.{is_unary_operator};
-ghost use Rattle.if_values.specs.Levels.{number_of, operators_at, levels_from};
+ghost use Rattle.if_values.specs.Levels.{level_of, at_levels, only_at_its_level};
 
 use scan_model::{Kind, Tok};
 
@@ -43,121 +40,24 @@ pub(crate) enum Unary {
     Positive,
 }
 
-/// The levels of the binary operators, the loosest first ([expr]).
-#[derive(Clone, Copy)]
-pub(crate) enum Level {
-    Disjunction,
-    Conjunction,
-    InclusiveOr,
-    ExclusiveOr,
-    BitwiseAnd,
-    Equality,
-    Relation,
-    Shift,
-    Sum,
-    Product,
-}
-
-impl Level {
-    /// The next tighter level; None exactly after the tightest.
-    pub(crate) fn tighter(self) -> Option<Level>
-        ensures levels { levels_from self ≡ operators_at self ∷ option_map_or levels_from result [] }
-        ensures number { IfSome result (λ next. number_of next ≡ number_of self + 1) }
+impl Binary {
+    /// How many levels are looser than its own ([expr]): 0 for `||`, 9 for `*`, `/` and `%`.
+    pub(crate) fn level(self) -> u32
+        ensures value { result ≡ level_of (binary_of self) }
+        ensures small { result ≤ 9 }
     {
         match self {
-            Level::Disjunction => Some(Level::Conjunction),
-            Level::Conjunction => Some(Level::InclusiveOr),
-            Level::InclusiveOr => Some(Level::ExclusiveOr),
-            Level::ExclusiveOr => Some(Level::BitwiseAnd),
-            Level::BitwiseAnd => Some(Level::Equality),
-            Level::Equality => Some(Level::Relation),
-            Level::Relation => Some(Level::Shift),
-            Level::Shift => Some(Level::Sum),
-            Level::Sum => Some(Level::Product),
-            Level::Product => None,
+            Binary::OrElse => 0,
+            Binary::AndAlso => 1,
+            Binary::BitOr => 2,
+            Binary::BitXor => 3,
+            Binary::BitAnd => 4,
+            Binary::Equal | Binary::Unequal => 5,
+            Binary::Less | Binary::Greater | Binary::AtMost | Binary::AtLeast => 6,
+            Binary::ShiftLeft | Binary::ShiftRight => 7,
+            Binary::Plus | Binary::Minus => 8,
+            Binary::Times | Binary::Over | Binary::Modulo => 9,
         }
-    }
-}
-
-// Whether the token is a punctuator with one of two spellings.
-fn is_either(tok: &Tok, first: &[u8], second: &[u8]) -> bool
-    ensures { result ≡ (is_of Punct tok.now && (pointwise nat_eq first.now tok.now.text || pointwise nat_eq second.now tok.now.text)) }
-{
-    matches!(tok.kind, Kind::Punct)
-        && (first == tok.text.as_slice() || second == tok.text.as_slice())
-}
-
-fn only(operator: Binary, is_here: bool) -> Option<Binary>
-    ensures { result ≡ (if is_here then Some operator else None) }
-{
-    if is_here { Some(operator) } else { None }
-}
-
-fn relation(tok: &Tok) -> Option<Binary>
-    ensures { option_map binary_of result ≡ operator_of (operators_at Level.Relation) tok.now }
-{
-    if !matches!(tok.kind, Kind::Punct) {
-        return None;
-    }
-    match tok.text.as_slice() {
-        b"<" => Some(Binary::Less),
-        b">" => Some(Binary::Greater),
-        b"<=" => Some(Binary::AtMost),
-        b">=" => Some(Binary::AtLeast),
-        _ => None,
-    }
-}
-
-fn equality(tok: &Tok) -> Option<Binary>
-    ensures { option_map binary_of result ≡ operator_of (operators_at Level.Equality) tok.now }
-{
-    if !matches!(tok.kind, Kind::Punct) {
-        return None;
-    }
-    match tok.text.as_slice() {
-        b"==" => Some(Binary::Equal),
-        b"!=" | b"not_eq" => Some(Binary::Unequal),
-        _ => None,
-    }
-}
-
-fn shift(tok: &Tok) -> Option<Binary>
-    ensures { option_map binary_of result ≡ operator_of (operators_at Level.Shift) tok.now }
-{
-    if !matches!(tok.kind, Kind::Punct) {
-        return None;
-    }
-    match tok.text.as_slice() {
-        b"<<" => Some(Binary::ShiftLeft),
-        b">>" => Some(Binary::ShiftRight),
-        _ => None,
-    }
-}
-
-fn sum(tok: &Tok) -> Option<Binary>
-    ensures { option_map binary_of result ≡ operator_of (operators_at Level.Sum) tok.now }
-{
-    if !matches!(tok.kind, Kind::Punct) {
-        return None;
-    }
-    match tok.text.as_slice() {
-        b"+" => Some(Binary::Plus),
-        b"-" => Some(Binary::Minus),
-        _ => None,
-    }
-}
-
-fn product(tok: &Tok) -> Option<Binary>
-    ensures { option_map binary_of result ≡ operator_of (operators_at Level.Product) tok.now }
-{
-    if !matches!(tok.kind, Kind::Punct) {
-        return None;
-    }
-    match tok.text.as_slice() {
-        b"*" => Some(Binary::Times),
-        b"/" => Some(Binary::Over),
-        b"%" => Some(Binary::Modulo),
-        _ => None,
     }
 }
 
@@ -177,28 +77,34 @@ pub(crate) fn unary_operator(tok: &Tok) -> Option<Unary>
     }
 }
 
-/// The binary operator of this level that the token is, alternative words included ([lex.digraph]).
-pub(crate) fn binary_operator(level: Level, tok: &Tok) -> Option<Binary>
-    ensures { option_map binary_of result ≡ operator_of (operators_at level) tok.now }
+/// The binary operator that the token is, alternative words included ([lex.digraph]).
+pub(crate) fn binary_operator(tok: &Tok) -> Option<Binary>
+    ensures { at_levels tok.now ≡ only_at_its_level (option_map binary_of result) }
 {
-    match level {
-        Level::Disjunction => only(Binary::OrElse, is_either(tok, b"||", b"or")),
-        Level::Conjunction => only(Binary::AndAlso, is_either(tok, b"&&", b"and")),
-        Level::InclusiveOr => only(Binary::BitOr, is_either(tok, b"|", b"bitor")),
-        Level::ExclusiveOr => only(Binary::BitXor, is_either(tok, b"^", b"xor")),
-        Level::BitwiseAnd => only(Binary::BitAnd, is_either(tok, b"&", b"bitand")),
-        Level::Equality => equality(tok),
-        Level::Relation => relation(tok),
-        Level::Shift => shift(tok),
-        Level::Sum => sum(tok),
-        Level::Product => product(tok),
+    if !matches!(tok.kind, Kind::Punct) {
+        return None;
     }
-}
-
-fn is_binary(level: Level, tok: &Tok) -> bool
-    ensures { result ≡ is_some (operator_of (operators_at level) tok.now) }
-{
-    binary_operator(level, tok).is_some()
+    match tok.text.as_slice() {
+        b"||" | b"or" => Some(Binary::OrElse),
+        b"&&" | b"and" => Some(Binary::AndAlso),
+        b"|" | b"bitor" => Some(Binary::BitOr),
+        b"^" | b"xor" => Some(Binary::BitXor),
+        b"&" | b"bitand" => Some(Binary::BitAnd),
+        b"==" => Some(Binary::Equal),
+        b"!=" | b"not_eq" => Some(Binary::Unequal),
+        b"<" => Some(Binary::Less),
+        b">" => Some(Binary::Greater),
+        b"<=" => Some(Binary::AtMost),
+        b">=" => Some(Binary::AtLeast),
+        b"<<" => Some(Binary::ShiftLeft),
+        b">>" => Some(Binary::ShiftRight),
+        b"+" => Some(Binary::Plus),
+        b"-" => Some(Binary::Minus),
+        b"*" => Some(Binary::Times),
+        b"/" => Some(Binary::Over),
+        b"%" => Some(Binary::Modulo),
+        _ => None,
+    }
 }
 
 pub(crate) fn is_unary(tok: &Tok) -> bool
@@ -211,15 +117,5 @@ pub(crate) fn is_unary(tok: &Tok) -> bool
 pub(crate) fn is_operator(tok: &Tok) -> bool
     ensures { result ≡ is_operator tok.now }
 {
-    is_binary(Level::Disjunction, tok)
-        | is_binary(Level::Conjunction, tok)
-        | is_binary(Level::InclusiveOr, tok)
-        | is_binary(Level::ExclusiveOr, tok)
-        | is_binary(Level::BitwiseAnd, tok)
-        | is_binary(Level::Equality, tok)
-        | is_binary(Level::Relation, tok)
-        | is_binary(Level::Shift, tok)
-        | is_binary(Level::Sum, tok)
-        | is_binary(Level::Product, tok)
-        | is_unary(tok)
+    binary_operator(tok).is_some() | is_unary(tok)
 }

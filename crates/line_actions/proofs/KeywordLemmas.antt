@@ -19,7 +19,7 @@ use Rattle.scan_model.specs.Stream.{ModuleLine}
 use Rattle.scan_model.specs.Effect.{Effect, Now, Sends, stop}
 use Rattle.scan_model.specs.Replacing.{with_replaced}
 use Rattle.scan_model.specs.KeywordLines.{is_object_like, as_keyword, keyword_of, keyword_kind, sent, keyword_line, module_line}
-use Rattle.module_lines.specs.Identifiers.{HaveUtf8Names}
+use Rattle.scan_model.specs.Utf8Names.{HaveUtf8Names}
 use Rattle.macro_table.specs.Table.{macros_of}
 use Rattle.replaced_names.specs.Names.{IsUtf8Map}
 use Rattle.replaced_names.proofs.Expansions.{names_stay}

@@ -1,218 +1,34 @@
 -- The tests of a condition, one after another ([cpp.cond]).
-use Rattle.std.proofs.Common.{◌≡◌, ℕ, zero, suc, ◌+◌, ◌-◌, ◌<◌, ◌≤◌, Bool, true, false, cond, List, [], ◌∷◌, ◌++◌, take, drop, length, refl, ap, sym, ◌∙◌, subst, arith, append_assoc, length-append, inl, inr}
-use Rattle.std.specs.Prelude.{Option, Some, None, IfSome, IsTrue, is_some}
-use Rattle.std.specs.Option.{option_map, option_map_or}
-use Rattle.std.proofs.lemmas.Bool.{cases_Bool, true≢false}
-use Rattle.scan_model.specs.declared.token.Kind.TheVariants.{Header}
+use Rattle.std.proofs.Common.{◌≡◌, ℕ, ◌+◌, ◌<◌, ◌≤◌, Bool, List, [], ◌∷◌, ◌++◌, drop, length, map, refl, ap, sym, ◌∙◌, subst}
+use Rattle.std.specs.Prelude.{Option, Some, None, IsTrue, is_some}
+use Rattle.std.specs.Option.{option_map}
+use Rattle.std.proofs.lemmas.Bool.{true≢false}
 use Rattle.scan_model.specs.declared.token.Tok.{Tok}
 use Rattle.scan_model.specs.declared.command.Form.{Form}
-use Rattle.scan_model.specs.declared.command.Form.TheVariants.{Quoted, Angled}
 use Rattle.scan_model.specs.declared.condition.HasAt.{HasAt}
-use Rattle.scan_model.specs.declared.condition.HasNext.{HasNext}
 use Rattle.scan_model.specs.declared.condition.HasNext.TheVariants.{End, Bad, At}
-use Rattle.scan_model.specs.TokenTests.{is_of, is_sign, is_open_paren, is_close_paren, is_plain_string, unquoted}
-use Rattle.scan_model.specs.HeaderName.{Named, nonempty, written_before, angled_rest, angled, name_of, header, header_or_name, before_close, has_name, is_has, is_has_next, has_at, next_has_from, next_has, Term, Plain, Has, terms}
-use Rattle.if_values.specs.Known.{has_count}
-use Rattle.if_values.proofs.KnownLemmas.{terms-nil, terms-plain, terms-has, terms-bad}
+use Rattle.scan_model.specs.HeaderName.{Named, header_or_name, Term, Plain, Has, terms}
+use Rattle.if_values.proofs.WalkLemmas.{Walked}
 use Rattle.plain_lines.specs.Conditions.{from_first_test}
-use Rattle.replaced_names.proofs.Lists.{if_cond, if_map}
 use Rattle.line_actions.specs.Names.{form_and_name}
 use Rattle.line_actions.specs.Tests.{Finds}
 
--- ## What follows a name is a rear part
-
-abbrev pub RearOf : List Tok → List Tok → Type 0
-RearOf s ts = (front : List Tok) × (ts ≡ front ++ s)
-
-abbrev HasRear : List Tok → Named → Type 0
-HasRear ts n = RearOf n.after ts
-
-rear_self : (ts : List Tok) → RearOf ts ts
-rear_self ts = ([], refl)
-
-rear_more : (s : List Tok) (t : Tok) (ts : List Tok) → RearOf s ts → RearOf s (t ∷ ts)
-rear_more s t ts h = (t ∷ h.0, ap (λ us. t ∷ us) h.1)
-
-rear_map : (s : List ℕ) (t : Tok) (ts : List Tok) (o : Option Named) → IfSome o (HasRear ts) → IfSome (option_map (written_before s) o) (HasRear (t ∷ ts))
-rear_map s t ts o h = if_map (HasRear ts) (HasRear (t ∷ ts)) (written_before s) o (λ n g. rear_more n.after t ts g) h
-
-angled_rest_rear : (ts : List Tok) → IfSome (angled_rest ts) (HasRear ts)
-angled_rest_rear [] = tt
-angled_rest_rear (t ∷ ts) = let s = cond t.space (32 ∷ t.text) t.text in
-    if_cond (HasRear (t ∷ ts)) (is_sign (">" ∷ []) t) (Some (record { form = Angled; name = []; after = ts })) (option_map (written_before s) (angled_rest ts)) (rear_more ts t ts (rear_self ts))
-    (rear_map s t ts (angled_rest ts) (angled_rest_rear ts))
-
-angled_rear : (ts : List Tok) → IfSome (angled ts) (HasRear ts)
-angled_rear [] = tt
-angled_rear (t ∷ ts) = if_cond (HasRear (t ∷ ts)) (is_sign (">" ∷ []) t) None (option_map (written_before t.text) (angled_rest ts)) tt (rear_map t.text t ts (angled_rest ts) (angled_rest_rear ts))
-
-more_rear : (t : Tok) (ts : List Tok) (o : Option Named) → IfSome o (HasRear ts) → IfSome o (HasRear (t ∷ ts))
-more_rear t ts None h = tt
-more_rear t ts (Some n) h = rear_more n.after t ts h
-
-name_of_rear : (ts : List Tok) → IfSome (name_of ts) (HasRear ts)
-unfolding name_of
-name_of_rear [] = tt
-name_of_rear (t ∷ ts) =
-    let quoted : Named = record { form = Quoted; name = unquoted t.text; after = ts } in
-    if_cond (HasRear (t ∷ ts)) (is_plain_string t) (nonempty quoted) (cond (is_sign ("<" ∷ []) t) (angled ts) None) (if_cond (HasRear (t ∷ ts)) _ None (Some quoted) tt (rear_more ts t ts (rear_self ts)))
-    (if_cond (HasRear (t ∷ ts)) (is_sign ("<" ∷ []) t) (angled ts) None (more_rear t ts (angled ts) (angled_rear ts)) tt)
-
-header_or_name_rear : (ts : List Tok) → IfSome (header_or_name ts) (HasRear ts)
-header_or_name_rear [] = tt
-header_or_name_rear (t ∷ ts) = if_cond (HasRear (t ∷ ts)) (is_of Header t) (Some (header t ts)) (name_of (t ∷ ts)) (rear_more ts t ts (rear_self ts)) (name_of_rear (t ∷ ts))
-
--- the name in parentheses that follows a test's word
-pub record IsName (ts : List Tok) (n : Named) : Type 0 where
-  pub name : header_or_name (drop 1 ts) ≡ Some n
-  pub rear : RearOf n.after ts
-  pub closed : 0 < length n.after
-
-has_name_is : (ts : List Tok) → IfSome (has_name ts) (IsName ts)
-has_name_is [] = tt
-has_name_is (t ∷ ts) = if_cond (IsName (t ∷ ts)) (is_open_paren t) (option_map_or before_close (header_or_name ts) None) None (by (header_or_name ts) refl) tt where
-  closes : (n : Named) → header_or_name ts ≡ Some n → RearOf n.after (t ∷ ts) → IfSome (before_close n) (IsName (t ∷ ts))
-  closes n e r = with_after n.after refl where
-    with_after : (after : List Tok) → n.after ≡ after → IfSome (elim after [
-      | [] ↦ None
-      | u ∷ us ↦ cond (is_close_paren u) (Some n) None
-    ]) (IsName (t ∷ ts))
-    with_after [] q = tt
-    with_after (u ∷ us) q = if_cond (IsName (t ∷ ts)) (is_close_paren u) (Some n) None (record { name = e; rear = r; closed = omega (arith, ap length q) }) tt
-
-  by : (o : Option Named) → header_or_name ts ≡ o → IfSome (option_map_or before_close o None) (IsName (t ∷ ts))
-  by None e = tt
-  by (Some n) e = closes n e (rear_more n.after t ts (subst (λ (o : Option Named). IfSome o (HasRear ts)) e (header_or_name_rear ts)))
-
--- ## Tests by places
-
--- the test that stands at these places of all tokens, of which `ts` is a rear part after k of them
-pub record IsTest (toks ts : List Tok) (k : ℕ) (h : HasAt) (n : Named) : Type 0 where
-  pub name : header_or_name (drop h.first toks) ≡ Some n
-  pub inside : h.first ≤ length toks
-  pub form : h.form ≡ n.form
-  pub rest : drop (h.past + 1) toks ≡ drop 1 n.after
-  pub later : k < h.past + 1
-  pub within : h.past + 1 ≤ length toks
-  pub terms : option_map from_first_test (terms ts) ≡ option_map (Has h.next n.form n.name ∷◌) (terms (drop 1 n.after))
-
-abbrev pub Walked : List Tok → List Tok → ℕ → HasNext → Type 0
-Walked toks ts k End = (us : List Term) × ((terms ts ≡ Some us) × (from_first_test us ≡ []))
-Walked toks ts k (Bad place) = terms ts ≡ None
-Walked toks ts k (At h) = (n : Named) × IsTest toks ts k h n
-
-drop_front : {A : Type 0} (xs ys : List A) (j : ℕ) → drop (length xs + j) (xs ++ ys) ≡ drop j ys
-drop_front [] ys j = ap (λ k. drop k ys) (omega arith)
-drop_front (x ∷ xs) ys j = let e : length (x ∷ xs) + j ≡ suc (length xs + j) = omega arith in ap (λ k. drop k (x ∷ xs ++ ys)) e ∙ drop_front xs ys j
-
-first_plain : (t : Tok) (o : Option (List Term)) → option_map from_first_test (option_map (Plain t ∷◌) o) ≡ option_map from_first_test o
-first_plain t None = refl
-first_plain t (Some ts) = refl
-
-first_has : (next : Bool) (n : Named) (o : Option (List Term)) → option_map from_first_test (option_map (Has next n.form n.name ∷◌) o) ≡ option_map (Has next n.form n.name ∷◌) o
-first_has next n None = refl
-first_has next n (Some ts) = refl
-
-passed_plain : (toks : List Tok) (t : Tok) (ts : List Tok) (k : ℕ) (h : HasNext) → is_has t ≡ false → Walked toks ts (k + 1) h → Walked toks (t ∷ ts) k h
-passed_plain toks t ts k End e w = (Plain t ∷ w.0, (terms-plain t ts e ∙ ap (option_map (Plain t ∷◌)) w.1.0, w.1.1))
-passed_plain toks t ts k (Bad place) e w = terms-plain t ts e ∙ ap (option_map (Plain t ∷◌)) w
-passed_plain toks t ts k (At h) e w = let is = w.1 in (
-  w.0,
-  record {
-    name = is.name;
-    inside = is.inside;
-    form = is.form;
-    rest = is.rest;
-    later = let l : k + 1 < h.past + 1 = is.later in omega arith;
-    within = is.within;
-    terms = ap (option_map from_first_test) (terms-plain t ts e) ∙ first_plain t (terms ts) ∙ is.terms;
-  },
-)
-
-found_test : (toks before : List Tok) (t : Tok) (ts : List Tok) (n : Named) → toks ≡ before ++ t ∷ ts → is_has t ≡ true → has_name ts ≡ Some n → IsName ts n →
-    IsTest toks (t ∷ ts) (length before) (record { first = length before + 2; past = length toks - length n.after; form = n.form; next = is_has_next t }) n
-found_test toks before t ts n whole e f is =
-    let front = before ++ t ∷ is.rear.0 in
-    let split : toks ≡ front ++ n.after = whole ∙ ap (λ us. before ++ t ∷ us) is.rear.1 ∙ sym (append_assoc before (t ∷ is.rear.0) n.after) in
-    let lengths : length toks ≡ length front + length n.after = ap length split ∙ length-append front n.after in
-    let fronts : length front ≡ length before + suc (length is.rear.0) = length-append before (t ∷ is.rear.0) in
-    let past : length toks - length n.after ≡ length front = omega arith in
-    record {
-      name = ap header_or_name (ap (drop (length before + 2)) whole ∙ drop_front before (t ∷ ts) 2) ∙ is.name;
-      inside = let r : length is.rear.0 + length n.after ≡ length ts = sym (length-append is.rear.0 n.after) ∙ ap length (sym is.rear.1) in omega (arith, is.closed);
-      form = refl;
-      rest = ap (λ k. drop (k + 1) toks) past ∙ ap (drop (length front + 1)) split ∙ drop_front front n.after 1;
-      later = omega (arith, is.closed);
-      within = omega (arith, is.closed);
-      terms = ap (option_map from_first_test) (terms-has t ts n e f) ∙ first_has (is_has_next t) n (terms (drop 1 n.after));
-    }
-
-here : (toks before : List Tok) (t : Tok) (ts : List Tok) (o : Option Named) → toks ≡ before ++ t ∷ ts → is_has t ≡ true → has_name ts ≡ o →
-    Walked toks (t ∷ ts) (length before) (has_at (is_has_next t) (length toks) (length before) o)
-here toks before t ts None whole e f = terms-bad t ts e f
-here toks before t ts (Some n) whole e f = (n, found_test toks before t ts n whole e f (subst (λ (o : Option Named). IfSome o (IsName ts)) f (has_name_is ts)))
-
-walk : (toks before ts : List Tok) → toks ≡ before ++ ts → Walked toks ts (length before) (next_has_from (length toks) (length before) ts)
-walk toks before [] whole = ([], (terms-nil, refl))
-walk toks before (t ∷ ts) whole =
-    elim (cases_Bool (is_has t)) [
-      | inl y ↦ subst (λ b. Walked toks (t ∷ ts) (length before) (cond b (has_at (is_has_next t) (length toks) (length before) (has_name ts)) (next_has_from (length toks) (length before + 1) ts))) (sym y)
-          (here toks before t ts (has_name ts) whole y refl)
-      | inr n ↦ subst (λ b. Walked toks (t ∷ ts) (length before) (cond b (has_at (is_has_next t) (length toks) (length before) (has_name ts)) (next_has_from (length toks) (length before + 1) ts))) (sym n)
-          (passed_plain toks t ts (length before) (next_has_from (length toks) (length before + 1) ts) n
-          (subst (λ k. Walked toks ts k (next_has_from (length toks) k ts)) (length-append before (t ∷ []) ∙ one) (walk toks (before ++ t ∷ []) ts (whole ∙ sym (append_assoc before (t ∷ []) ts)))))
-    ]
-  where
-    one : length before + length (t ∷ []) ≡ length before + 1
-    one = omega arith
-
-halves : {A : Type 0} (xs : List A) (k : ℕ) → k ≤ length xs → (xs ≡ take k xs ++ drop k xs) × (length (take k xs) ≡ k)
-halves xs zero h = (refl, refl)
-halves [] (suc k) h = absurd (omega arith)
-halves (x ∷ xs) (suc k) h = let more = halves xs k (omega arith) in (ap (λ ys. x ∷ ys) more.0, omega (arith, more.1))
-
-pub walked : (toks : List Tok) (from : ℕ) (h : HasNext) → from ≤ length toks → h ≡ next_has toks from → Walked toks (drop from toks) from h
-unfolding next_has
-walked toks from h inside is =
-    let both = halves toks from inside in
-    subst (λ x. Walked toks (drop from toks) from x) (sym is)
-    (subst (λ k. Walked toks (drop from toks) k (next_has_from (length toks) k (drop from toks))) both.1 (walk toks (take from toks) (drop from toks) both.0))
-
--- ## Tests counted
-
-abbrev pub and_more : ℕ → List Term → ℕ
-and_more n ts = n + has_count ts
-
-from_first : (ts : List Term) → has_count ts ≡ has_count (from_first_test ts)
-from_first [] = refl
-from_first (Plain t ∷ ts) = from_first ts
-from_first (Has next form name ∷ ts) = refl
-
-count_step : (n : ℕ) (h : HasAt) (name : Named) (o p : Option (List Term)) → option_map from_first_test o ≡ option_map (Has h.next name.form name.name ∷◌) p → option_map (and_more n) o ≡ option_map (and_more (n + 1)) p
-count_step n h name None None e = refl
-count_step n h name None (Some vs) e = cc
-count_step n h name (Some us) None e = cc
-count_step n h name (Some us) (Some vs) e =
-    let same : from_first_test us ≡ Has h.next name.form name.name ∷ vs = cc in
-    let more : has_count us ≡ 1 + has_count vs = from_first us ∙ ap has_count same in
-    ap (λ k. Some k) (omega arith)
-
-pub count_end : (toks ts : List Tok) (k n : ℕ) → Walked toks ts k End → option_map (and_more n) (terms ts) ≡ Some n
-count_end toks ts k n w =
-    let none : has_count w.0 ≡ 0 = from_first w.0 ∙ ap has_count w.1.1 in
-    ap (option_map (and_more n)) w.1.0 ∙ ap (λ j. Some j) (omega arith)
-
-pub count_bad : (toks ts : List Tok) (k place n : ℕ) → Walked toks ts k (Bad place) → option_map (and_more n) (terms ts) ≡ None
-count_bad toks ts k place n w = ap (option_map (and_more n)) w
-
-pub count_at : (toks ts : List Tok) (k n : ℕ) (h : HasAt) → (w : Walked toks ts k (At h)) → option_map (and_more n) (terms ts) ≡ option_map (and_more (n + 1)) (terms (drop (h.past + 1) toks))
-count_at toks ts k n h w = count_step n h w.0 (terms ts) (terms (drop 1 w.0.after)) w.1.terms ∙ ap (λ us. option_map (and_more (n + 1)) (terms us)) (sym w.1.rest)
-
-pub count_all : (o : Option (List Term)) → option_map (and_more 0) o ≡ option_map has_count o
-count_all None = refl
-count_all (Some ts) = ap (λ k. Some k) (omega arith)
-
 -- ## The first test found
+
+none_left : (ts : List Tok) → from_first_test (map Plain ts) ≡ []
+none_left [] = refl
+none_left (t ∷ ts) = none_left ts
+
+past_plain : (ts : List Tok) (next : Bool) (n : Named) (us : List Term) → from_first_test (map Plain ts ++ Has next n.form n.name ∷ us) ≡ Has next n.form n.name ∷ us
+past_plain [] next n us = refl
+past_plain (t ∷ ts) next n us = past_plain ts next n us
+
+first_of_terms : (passed : List Tok) (next : Bool) (n : Named) (o : Option (List Term)) → option_map from_first_test (option_map (λ us. map Plain passed ++ Has next n.form n.name ∷ us) o) ≡ option_map (Has next n.form n.name ∷◌) o
+first_of_terms passed next n None = refl
+first_of_terms passed next n (Some us) = ap (λ vs. Some vs) (past_plain passed next n us)
+
+first_left : (ts passed : List Tok) (next : Bool) (n : Named) (o : Option (List Term)) → terms ts ≡ option_map (λ us. map Plain passed ++ Has next n.form n.name ∷ us) o → option_map from_first_test (terms ts) ≡ option_map (Has next n.form n.name ∷◌) o
+first_left ts passed next n o e = ap (option_map from_first_test) e ∙ first_of_terms passed next n o
 
 found_by : (toks : List Tok) (from : ℕ) (h : HasAt) (name : Named) (o p : Option (List Term)) → terms (drop from toks) ≡ o → terms (drop (h.past + 1) toks) ≡ p → IsTrue (is_some o) → from < h.past + 1 → h.past + 1 ≤ length toks →
     option_map from_first_test o ≡ option_map (Has h.next name.form name.name ∷◌) p → Finds toks from (Some (record { next = h.next; form = name.form; name = name.name; past = h.past + 1 }))
@@ -234,10 +50,10 @@ finds_test toks from h form name some w e =
     let is = w.1 in
     let same = named_as form name (header_or_name (drop h.first toks)) w.0 e is.name in
     subst (λ (p : Form × List ℕ). Finds toks from (Some (record { next = h.next; form = p.0; name = p.1; past = h.past + 1 }))) same
-    (found_by toks from h w.0 (terms (drop from toks)) (terms (drop (h.past + 1) toks)) refl refl some is.later is.within (is.terms ∙ ap (λ us. option_map (Has h.next w.0.form w.0.name ∷◌) (terms us)) (sym is.rest)))
+    (found_by toks from h w.0 (terms (drop from toks)) (terms (drop (h.past + 1) toks)) refl refl some is.later is.within (first_left (drop from toks) is.passed h.next w.0 (terms (drop 1 w.0.after)) is.terms ∙ ap (λ us. option_map (Has h.next w.0.form w.0.name ∷◌) (terms us)) (sym is.rest)))
 
 pub finds_none : (toks : List Tok) (from : ℕ) → Walked toks (drop from toks) from End → Finds toks from None
-finds_none toks from w = w
+finds_none toks from w = (map Plain (drop from toks), (w, none_left (drop from toks)))
 
 pub never_bad : (toks : List Tok) (from place : ℕ) → IsTrue (is_some (terms (drop from toks))) → Walked toks (drop from toks) from (Bad place) → ⊥
 never_bad toks from place some w = true≢false (sym some ∙ ap is_some w)

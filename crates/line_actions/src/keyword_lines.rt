@@ -4,7 +4,7 @@ ghost use Rattle.scan_model.specs.Spelling.{spells};
 ghost use Rattle.scan_model.specs.KeywordLines as line;
 ghost use Rattle.reducer.specs.Views.{view};
 ghost use Rattle.macro_table.specs.Table.{macros_of};
-ghost use Rattle.module_lines.specs.Identifiers.{HaveUtf8Names};
+ghost use Rattle.scan_model.specs.Utf8Names.{HaveUtf8Names};
 ghost use Rattle.line_actions.specs.Sent.{IsSent};
 ghost use Rattle.plain_lines.specs.Lines.{IsThere, toks_at, line_of};
 ghost use Rattle.plain_lines.specs.Actions.{Acts, IsSame};

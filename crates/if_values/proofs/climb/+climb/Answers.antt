@@ -1,32 +1,36 @@
 use Rattle.std.proofs.Common.{◌<◌, length, arith, ap, length-append}
 use Rattle.std.specs.Prelude.{Some, None}
 use Rattle.if_values.specs.Operators.{binary_of}
-use Rattle.if_values.proofs.ClimbLemmas.{number_small, climbs-init, binary-none, climbs-step, climbs-fail, climbs-end, conditional-none, conditional-plain, conditional-no-chosen, conditional-no-colon, conditional-no-other, conditional-whole, unary-rows, first-has}
+use Rattle.if_values.proofs.ClimbLemmas.{climbs-init, binary-none, climbs-step, climbs-fail, climbs-end, climbs-past, conditional-none, conditional-plain, conditional-no-chosen, conditional-no-colon, conditional-no-other, conditional-whole, unary-rows, first-has}
 use Rattle.if_values.proofs.climb.+climb.Goals as goal
 
-pub binary-tighter-requires : goal.binary-tighter-requires
-binary-tighter-requires t c = (omega (arith, number_small c.args.level), tt)
-
 pub binary-returns-in_err-left-clause-value : goal.binary-returns-in_err-left-clause-value
-binary-returns-in_err-left-clause-value t c = rw c.from_residual.ensures (binary-none c.args.level c.args.at.now c.tighter.new.at c.tighter.new.at c.in_err-left.ensures.value)
+binary-returns-in_err-left-clause-value t c = rw c.from_residual.ensures (binary-none c.args.level c.args.at.now c.unary.new.at c.unary.new.at c.in_err-left.ensures.value)
 
 pub binary-operands-init : goal.binary-operands-init
-binary-operands-init t c = climbs-init c.args.level c.args.at.now c.tighter.new.at c.in_ok-left.left c.in_ok-left.ensures.value c.in_ok-left.ensures.shorter
+binary-operands-init t c = climbs-init c.args.level c.args.at.now c.unary.new.at c.in_ok-left.left c.in_ok-left.ensures.value c.in_ok-left.ensures.shorter
 
-pub binary-tighter-requires-in-Some : goal.binary-tighter-requires-in-Some
-binary-tighter-requires-in-Some t c = let short : length c.pass_operator.new.at < length c.args.at.now = omega (arith, ap length c.in-Some.ensures.1, c.operands.invariant.shorter) in (omega arith, tt)
+pub binary-binary-requires : goal.binary-binary-requires
+binary-binary-requires t c = let short : length c.pass_operator.new.at < length c.args.at.now = omega (arith, ap length c.in-Some.ensures.1, c.operands.invariant.shorter) in (omega arith, tt)
 
 pub binary-returns-in_err-right-clause-value : goal.binary-returns-in_err-right-clause-value
-binary-returns-in_err-right-clause-value t c = rw c.from_residual-in_err-right.ensures (climbs-fail c.args.level c.args.at.now c.operands.at c.pass_operator.new.at c.tighter-in-Some.new.at c.tighter-in-Some.new.at c.operands.left (binary_of c.in-Some.operator) c.operands.invariant c.in-Some.ensures c.in_err-right.ensures.value)
+binary-returns-in_err-right-clause-value t c =
+    rw c.from_residual-in_err-right.ensures (climbs-fail c.args.level c.args.at.now c.operands.at c.pass_operator.new.at c.binary.new.at c.binary.new.at c.operands.left (binary_of c.in-Some.operator)
+    c.operands.invariant c.in-Some.ensures (omega (arith, c.level.ensures.value, c.level.ensures.small)) (rw c.level.ensures.value at c.in_err-right.ensures.value))
 
 pub binary-operands-smaller : goal.binary-operands-smaller
 binary-operands-smaller t c = omega (arith, ap length c.in-Some.ensures.1, c.in_ok-right.ensures.shorter)
 
 pub binary-operands-preserved : goal.binary-operands-preserved
-binary-operands-preserved t c = rw c.infix-left.ensures (climbs-step c.args.level c.args.at.now c.operands.at c.pass_operator.new.at c.tighter-in-Some.new.at c.operands.left c.in_ok-right.right (binary_of c.in-Some.operator) c.operands.invariant c.in-Some.ensures c.in_ok-right.ensures.value c.in_ok-right.ensures.shorter)
+binary-operands-preserved t c =
+    rw c.infix-left.ensures (climbs-step c.args.level c.args.at.now c.operands.at c.pass_operator.new.at c.binary.new.at c.operands.left c.in_ok-right.right (binary_of c.in-Some.operator)
+    c.operands.invariant c.in-Some.ensures (omega (arith, c.level.ensures.value, c.level.ensures.small)) (rw c.level.ensures.value at c.in_ok-right.ensures.value) c.in_ok-right.ensures.shorter (rw c.level.ensures.value at c.in_ok-right.ensures.past))
 
 pub binary-returns-clause-value : goal.binary-returns-clause-value
 binary-returns-clause-value t c = climbs-end c.args.level c.args.at.now c.operands.at c.pass_operator.new.at c.operands.left c.operands.invariant c.in_default.ensures
+
+pub binary-returns-clause-past : goal.binary-returns-clause-past
+binary-returns-clause-past t c = climbs-past c.args.level c.operands.at c.pass_operator.new.at c.in_default.ensures
 
 pub conditional-binary-requires : goal.conditional-binary-requires
 conditional-binary-requires t c = (omega arith, tt)
@@ -69,12 +73,6 @@ primary-in_parens-requires t c = (omega (arith, ap length c.in-Some-Plain.ensure
 
 pub primary-returns-in-Some-Has-clause-value : goal.primary-returns-in-Some-Has-clause-value
 primary-returns-in-Some-Has-clause-value t c = rw c.known_leaf.ensures (first-has c.args.at.now c.next.new.self c.in-Some-Has.known (rw c.in-Some-Has.field-0-is at c.in-Some-Has.ensures))
-
-pub tighter-binary-requires : goal.tighter-binary-requires
-tighter-binary-requires t c = (omega (arith, number_small c.args.level, c.in-Some.ensures.number), tt)
-
-pub tighter-unary-requires : goal.tighter-unary-requires
-tighter-unary-requires t c = (omega (arith, number_small c.args.level), tt)
 
 pub unary-primary-requires : goal.unary-primary-requires
 unary-primary-requires t c = (omega (arith, ap length c.pass_row-row.ensures.row, length-append c.pass_row-row.result.now c.pass_row-row.new.self), tt)

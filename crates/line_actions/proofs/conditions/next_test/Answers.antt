@@ -3,7 +3,8 @@ use Rattle.std.specs.Option.{option_map}
 use Rattle.scan_model.specs.declared.condition.HasNext.TheVariants.{End, Bad, At}
 use Rattle.scan_model.specs.HeaderName.{header_or_name}
 use Rattle.line_actions.specs.Names.{form_and_name}
-use Rattle.line_actions.proofs.TestLemmas.{walked, finds_none, never_bad, finds_test, has_some_name}
+use Rattle.if_values.proofs.WalkLemmas.{walked}
+use Rattle.line_actions.proofs.TestLemmas.{finds_none, never_bad, finds_test, has_some_name}
 use Rattle.line_actions.proofs.conditions.next_test.Goals as goal
 
 pub returns-in-End : goal.returns-in-End

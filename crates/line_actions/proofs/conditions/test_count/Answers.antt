@@ -1,6 +1,6 @@
 use Rattle.std.proofs.Common.{sym, ◌∙◌, drop, arith}
 use Rattle.scan_model.specs.declared.condition.HasNext.TheVariants.{End, Bad, At}
-use Rattle.line_actions.proofs.TestLemmas.{walked, count_end, count_bad, count_at}
+use Rattle.if_values.proofs.WalkLemmas.{walked, count_end, count_bad, count_at}
 use Rattle.line_actions.proofs.conditions.test_count.Goals as goal
 
 pub returns-in-End : goal.returns-in-End

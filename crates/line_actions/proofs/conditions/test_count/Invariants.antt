@@ -2,7 +2,7 @@ use Rattle.std.proofs.Common.{◌≡◌, ◌≤◌, ◌-◌, drop, length}
 use Rattle.std.specs.Option.{option_map}
 use Rattle.scan_model.specs.HeaderName.{terms}
 use Rattle.if_values.specs.Known.{has_count}
-use Rattle.line_actions.proofs.TestLemmas.{and_more}
+use Rattle.if_values.proofs.WalkLemmas.{and_more}
 use Rattle.line_actions.proofs.conditions.test_count.Given as goal
 
 -- those that are counted, and those of the rest, are all

@@ -6,7 +6,7 @@ use Rattle.scan_model.specs.KeywordLines.{sent}
 use Rattle.scan_model.specs.Expansion.{expand}
 use Rattle.reducer.specs.Views.{view}
 use Rattle.macro_table.specs.Table.{macros_of}
-use Rattle.module_lines.specs.Identifiers.{HaveUtf8Names}
+use Rattle.scan_model.specs.Utf8Names.{HaveUtf8Names}
 use Rattle.plain_lines.specs.declared.state.FileState.{FileState}
 use Rattle.plain_lines.specs.declared.state.UnitState.{UnitState}
 use Rattle.plain_lines.specs.States.{site_of}
