@@ -18,3 +18,4 @@ pub mod PlainMacros
 pub mod PlainExpansion
 pub mod PlainEffects
 pub mod PlainStreams
+pub mod SplicedLaws

@@ -4,3 +4,4 @@ pub mod KnownAnswers
 pub mod Streams
 pub mod Skipping
 pub mod Chain
+pub mod Splicing

@@ -9,6 +9,7 @@ mod growth;
 mod known_answers;
 mod reduction;
 mod skipping;
+mod splicing;
 mod streams;
 
 pub use chain::{
@@ -27,6 +28,9 @@ pub use reduction::{
     reduced_files_give_the_answer, text_changes_the_run_alone,
 };
 pub use skipping::skips_tell_what_lines_give;
+pub use splicing::{
+    a_text_shows_its_bytes_in_order, all_but_the_hidden_bytes_show, shown_bytes_stand_in_the_text,
+};
 pub use streams::{
     keywords_stand_in_module_lines_alone, tokens_give_what_module_lines_give,
     units_read_by_tokens_alike,
