@@ -3,3 +3,4 @@ pub mod Givens
 pub mod Made
 pub mod Scripts
 pub mod Sinks
+pub mod Texts

@@ -1,11 +1,13 @@
-ghost use Rattle.std.specs.Prelude.{◌≡◌, [], IfOk};
+ghost use Rattle.std.specs.Prelude.{◌≡◌, [], IfOk, OnOk};
 ghost use Rattle.file_source.specs.CameOf.{IsCaused, bytes_of, came_of_bytes, count_of, outcome_of};
-ghost use Rattle.file_source.specs.Made.{came_at};
+ghost use Rattle.file_source.specs.Made.{came_at, came_of_text};
+ghost use Rattle.file_source.specs.Texts.{AreListed, IsPut, text_in};
 
 use crate::given::Came;
 use crate::{Listed, MadeFile, Source};
 use scan_model::{Bytes, FILE_LIMIT, Items, NoMemory, Outcome, PathText};
 use std::alloc::Global;
+use std::collections::HashMap;
 use std::marker::PhantomData;
 
 /// The files that J lists, in memory; nothing of it ever fails.
@@ -14,10 +16,10 @@ use std::marker::PhantomData;
 /// Big, and Absent for a path that isn't listed.
 #[derive(Drop)]
 pub struct PlainSource<J: Listed + Send + Sync> {
-    files: Items<MadeFile>,
+    texts: HashMap<Vec<u8>, Bytes>,
     asked: Vec<Bytes>,
     of: PhantomData<J>,
-    ghost listed: { files ≡ J.files },
+    ghost listed: { AreListed J.files texts.entries },
 }
 
 /// The right to read one path of a `PlainSource` once.
@@ -47,7 +49,7 @@ impl<J: Listed + Send + Sync> PlainSource<J> {
         ensures { IfOk result (λ s. ⟦<PlainSource<J> as Source>⟧.asked s ≡ []) }
     {
         Ok(PlainSource {
-            files,
+            texts: texts_of(alloc, files)?,
             asked: Vec::new(alloc),
             of: PhantomData,
         })
@@ -66,16 +68,41 @@ fn copy_text(alloc: Global, text: &[u8]) -> Result<Came, NoMemory>
 }
 
 // What comes of a read of this path.
-fn find_text(alloc: Global, files: &[MadeFile], path: &[u8]) -> Result<Came, NoMemory>
-    ensures value { IfOk result (λ came. came ≡ came_at files.now path.now) }
+fn find_text(alloc: Global, texts: &HashMap<Vec<u8>, Bytes>, path: &[u8]) -> Result<Came, NoMemory>
+    ensures value { IfOk result (λ came. came ≡ came_of_text (text_in texts.now.entries path.now)) }
     ensures caused { IfOk result (λ came. IsCaused came) }
 {
-    'files: for file in files {
-        if file.path.as_slice() == path {
-            return copy_text(alloc, file.text.as_slice());
-        }
+    match texts.get(path) {
+        Some(text) => copy_text(alloc, text.as_slice()),
+        None => Ok(Came::Absent),
     }
-    Ok(Came::Absent)
+}
+
+// The texts by their paths.
+fn texts_of(alloc: Global, files: Items<MadeFile>) -> Result<HashMap<Vec<u8>, Bytes>, NoMemory>
+    ensures { IfOk result (λ texts. AreListed files texts.entries) }
+{
+    let mut texts = HashMap::new(alloc);
+    let mut left = files.into_vec();
+    // From the last on: the first text of a path is put in last, in the place of the others.
+    'files: while let Some(file) = left.pop() {
+        put_text(alloc, &mut texts, file)?;
+    }
+    Ok(texts)
+}
+
+// Gives the file's path its text, in the place of an earlier one.
+fn put_text(
+    alloc: Global,
+    texts: &mut HashMap<Vec<u8>, Bytes>,
+    file: MadeFile,
+) -> Result<(), NoMemory>
+    ensures { OnOk result (IsPut file.path file.text texts.old.entries texts.new.entries) }
+{
+    let MadeFile { path, text } = file;
+    let key = Vec::from_slice(alloc, path.as_slice())?;
+    texts.insert(key, text)?;
+    Ok(())
 }
 
 impl<J: Listed + Send + Sync> Source for PlainSource<J> {
@@ -104,7 +131,7 @@ impl<J: Listed + Send + Sync> Source for PlainSource<J> {
     ghost given_came = { λ g. count_of (came_at J.files g.path) };
 
     fn ask(&mut self, alloc: Global, path: &PathText) -> Result<PlainOpener<J>, NoMemory> {
-        let came = find_text(alloc, self.files.as_slice(), path.as_slice())?;
+        let came = find_text(alloc, &self.texts, path.as_slice())?;
         let name = Bytes::copy(alloc, path.as_slice())?;
         self.asked.push(Bytes::copy(alloc, path.as_slice())?)?;
         Ok(PlainOpener {
