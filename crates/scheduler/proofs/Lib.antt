@@ -8,7 +8,6 @@ pub mod StoreGrowth
 pub mod LookLemmas
 pub mod Running
 pub mod Scheduled
-pub mod EndLists
 pub mod RunEnd
 pub mod RunStart
 pub mod StartLemmas

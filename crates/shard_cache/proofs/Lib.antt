@@ -4,3 +4,4 @@ pub mod StoreLemmas
 pub mod PlaceLemmas
 pub mod MapLemmas
 pub mod StoreRunLemmas
+pub mod EndLists

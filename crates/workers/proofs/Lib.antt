@@ -1,4 +1,3 @@
-pub mod OrderLemmas
 pub mod PlaceLemmas
 pub mod NumberLemmas
 pub mod RowLemmas

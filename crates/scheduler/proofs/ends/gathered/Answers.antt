@@ -1,5 +1,5 @@
 use Rattle.std.proofs.Common.{◌≡◌, ◌∷◌, [], ◌++◌, subst}
-use Rattle.scheduler.proofs.EndLists.{none_left}
+use Rattle.shard_cache.proofs.EndLists.{none_left}
 use Rattle.scheduler.proofs.ends.gathered.Goals as goal
 
 pub unreachable-requires : goal.unreachable-requires

@@ -1,5 +1,5 @@
 use Rattle.std.proofs.Common.{◌≡◌, ◌∷◌, [], ◌++◌, None, subst}
-use Rattle.workers.proofs.OrderLemmas.{none_left}
+use Rattle.shard_cache.proofs.EndLists.{none_left}
 use Rattle.workers.proofs.gathering.in_order.Goals as goal
 
 pub unreachable-requires : goal.unreachable-requires
