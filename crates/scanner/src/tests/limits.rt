@@ -61,6 +61,18 @@ fn doubling(alloc: Global) -> Result<String, Fail> {
     Ok(text)
 }
 
+// A macro of 200 parameters that gives the last one, called in a condition.
+fn parameters(alloc: Global) -> Result<String, Fail> {
+    let mut text = String::from_str(alloc, "u.cpp #define LAST(p0")?;
+    for number in 1..200u32 {
+        text.push_str(format!(in alloc; ", p{number}")?.as_str())?;
+    }
+    text.push_str(") p199`#if LAST(0")?;
+    repeat(&mut text, ", 0", 198)?;
+    text.push_str(", 1)`import a;`#endif")?;
+    Ok(text)
+}
+
 #[test]
 fn depths(rt: HostRuntime) -> Result<(), Fail> {
     let alloc = rt.alloc();
@@ -105,6 +117,22 @@ fn long_lines(rt: HostRuntime) -> Result<(), Fail> {
         open.as_str(),
         "/p/u.cpp:1: ConditionTooDeep",
     )
+}
+
+// A macro's name of 100 bytes, a module's name of 300 parts, a macro of 200 parameters.
+#[test]
+fn long_names(rt: HostRuntime) -> Result<(), Fail> {
+    let alloc = rt.alloc();
+    let mut named = main_file(alloc, "#define ", "n", 100, " 1`#if ")?;
+    repeat(&mut named, "n", 100)?;
+    named.push_str("`import a;`#endif")?;
+    is_as_said(&rt, alloc, "-c", named.as_str(), "requires a")?;
+    let import = main_file(alloc, "import a", ".b", 299, ";")?;
+    let mut record = String::from_str(alloc, "requires a")?;
+    repeat(&mut record, ".b", 299)?;
+    is_as_said(&rt, alloc, "-c", import.as_str(), record.as_str())?;
+    let many = parameters(alloc)?;
+    is_as_said(&rt, alloc, "-c", many.as_str(), "requires a")
 }
 
 #[test]
