@@ -1,5 +1,5 @@
 -- The characters of a literal, one after another.
-use Rattle.std.proofs.Common.{◌≡◌, ℕ, ◌+◌, ◌<◌, ◌≤◌, ◌≢◌, zero, suc, Bool, true, false, cond, List, [], ◌∷◌, ◌++◌, length, take, drop, set, refl, ap, sym, ◌∙◌, append_assoc, arith, length-append, length-take, length-drop}
+use Rattle.std.proofs.Common.{◌≡◌, ℕ, ◌+◌, ◌<◌, ◌≤◌, ◌≢◌, zero, suc, Bool, true, false, cond, List, [], ◌∷◌, ◌++◌, length, take, drop, set, refl, ap, sym, ◌∙◌, append_assoc, arith, length-drop}
 use Rattle.std.specs.Prelude.{Option, Some, None, IfSome, ◌==◌, nat_le}
 use Rattle.std.specs.Option.{option_map, option_map_or, option_and_then}
 use Rattle.std.proofs.lemmas.Option.{IfSome_then}
@@ -67,16 +67,8 @@ same_fuel (suc n) (suc m) (c ∷ s) h k =
 pub characters-drop : (n : ℕ) (s t : List ℕ) → t ≡ drop n s → characters_up_to (length s) t ≡ characters t
 characters-drop n s t e = same_fuel (length s) (length t) t (rw e (within_drop n (length s) s (omega arith))) (omega arith)
 
-pub characters-quote : (s : List ℕ) → first s ≡ 39 → characters s ≡ cond (length s == 1) (Some []) None
-characters-quote [] h = cc
-characters-quote (c ∷ s) h = rw h refl
-
 not_quote : (s : List ℕ) → first s ≢ 39 → (first s == 39) ≡ false
 not_quote s h = grind arith
-
-pub characters-bad : (s : List ℕ) → first s ≢ 39 → 0 < length s → character s ≡ None → characters s ≡ None
-characters-bad [] h k e = absurd (omega arith)
-characters-bad (c ∷ s) h k e = rw (not_quote (c ∷ s) h, e) refl
 
 characters-more : (s t : List ℕ) (v : ℕ) → first s ≢ 39 → 0 < length s → character s ≡ Some (v, t) → (characters s ≡ option_map (v ∷◌) (characters t)) × (length t < length s)
 characters-more [] t v h k e = absurd (omega arith)
@@ -97,17 +89,6 @@ reads-more text rest after bytes count v e h k l f =
 
 pub reads-shorter : (rest after : List ℕ) (v : ℕ) → first rest ≢ 39 → 0 < length rest → character rest ≡ Some (v, after) → length after < length rest
 reads-shorter rest after v h k f = (characters-more rest after v h k f).1
-
-pub reads-none : (xs cs : List ℕ) (o p : Option (List ℕ)) → p ≡ option_map (xs ++◌) o → o ≡ None → p ≡ Some cs → 4 < length cs
-reads-none xs cs o p e n k = let none : p ≡ None = rw n at e in cc
-
-longer : (xs cs : List ℕ) (v : ℕ) (o : Option (List ℕ)) → length xs ≡ 4 → option_map (xs ++◌) (option_map (v ∷◌) o) ≡ Some cs → 4 < length cs
-longer xs cs v None l e = cc
-longer xs cs v (Some ys) l e = let same : xs ++ v ∷ ys ≡ cs = cc in rw (← same) (simp length-append (omega arith))
-
-pub reads-too-many : (text rest after bytes cs : List ℕ) (v : ℕ) → characters text ≡ option_map (take 4 bytes ++◌) (characters rest) → first rest ≢ 39 → 0 < length rest → length bytes ≡ 4 → character rest ≡ Some (v, after) → characters text ≡ Some cs → 4 < length cs
-reads-too-many text rest after bytes cs v e h k l f g =
-    longer (take 4 bytes) cs v (characters after) (omega (arith, length-take {A = ℕ})) (sym (e ∙ ap (option_map (take 4 bytes ++◌)) (characters-more rest after v h k f).0) ∙ g)
 
 -- ---- the literal's value
 

@@ -12,20 +12,11 @@ len_yes base c s true u e f h = rw e refl
 len_yes base c s false true e f h = rw (e, f) refl
 len_yes base c s false false e f h = cc
 
-len_no : (base c : ℕ) (s : List ℕ) (t u : Bool) → is_digit base c ≡ t → (c == 39 && is_digit base (first s)) ≡ u → (t || u) ≡ false → digits_len base (c ∷ s) ≡ 0
-len_no base c s true u e f h = cc
-len_no base c s false true e f h = cc
-len_no base c s false false e f h = rw (e, f) refl
-
 pub digits_len-more : (base : ℕ) (s : List ℕ) (n : ℕ) → goes_on base (drop n s) ≡ true → digits_len base (drop n s) ≡ 1 + digits_len base (drop (suc n) s)
 digits_len-more base [] zero h = cc
 digits_len-more base [] (suc n) h = cc
 digits_len-more base (c ∷ s) zero h = len_yes base c s (is_digit base c) (c == 39 && is_digit base (first s)) refl refl h
 digits_len-more base (c ∷ s) (suc n) h = digits_len-more base s n h
-
-pub digits_len-end : (base : ℕ) (s : List ℕ) → goes_on base s ≡ false → digits_len base s ≡ 0
-digits_len-end base [] h = refl
-digits_len-end base (c ∷ s) h = len_no base c s (is_digit base c) (c == 39 && is_digit base (first s)) refl refl h
 
 pub goes_on-within : (base : ℕ) (s : List ℕ) (n : ℕ) → goes_on base (drop n s) ≡ true → n < length s
 goes_on-within base [] zero h = cc

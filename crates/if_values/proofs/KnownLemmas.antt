@@ -203,9 +203,6 @@ known-nothing (t ∷ ts) has e = absurd (omega arith)
 
 -- ---- unary operators in a row
 
-not_ident : (n : ℕ) (p q : Bool) → ((n == 5) && p) ≡ true → ((n == 0) && q) ≡ false
-not_ident n p q h = grind arith
-
 operator_of-none : {X : Type 0} (os : List (Spelt X)) (t : Tok) → is_of Punct t ≡ false → operator_of os t ≡ None
 operator_of-none [] t e = refl
 operator_of-none (o ∷ os) t e = rw e (operator_of-none os t e)
@@ -290,13 +287,6 @@ count-nil (t ∷ ts) e = absurd (omega arith)
 pub record Counts (toks rest : List Tok) (found : ℕ) : Type 0 where
   pub within : found + length rest ≤ length toks
   pub same : option_map has_count (terms toks) ≡ option_map (λ k. found + k) (option_map has_count (terms rest))
-
-no_more : (o : Option ℕ) → o ≡ option_map (λ k. 0 + k) o
-no_more None = refl
-no_more (Some n) = ap (λ k. Some k) (omega arith)
-
-pub counts-init : (toks : List Tok) → Counts toks toks 0
-counts-init toks = record { within = omega arith; same = no_more (option_map has_count (terms toks)) }
 
 pub counts-plain : (toks rest after : List Tok) (t : Tok) (found : ℕ) → Counts toks rest found → 0 < length rest → t ≡ get_or rest 0 t → is_has t ≡ false → after ≡ drop 1 rest → Counts toks after found
 counts-plain toks rest after t found c p e f r = record {

@@ -1,7 +1,6 @@
-ghost use Rattle.std.specs.Prelude.{◌≡◌, ◌≤◌, ◌||◌, nat_lt, None};
+ghost use Rattle.std.specs.Prelude.{◌≡◌, ◌≤◌, ◌||◌, None};
 ghost use Rattle.std.specs.List.{list_any};
 ghost use Rattle.std.specs.Option.{option_map};
-ghost use Rattle.scan_model.specs.Parentheses.{depth_after};
 ghost use Rattle.scan_model.specs.Condition.{is_bad_literal, opens_operand, is_unary, is_too_deep};
 ghost use Rattle.if_values.specs.Known.{HasEntries, known};
 ghost use Rattle.if_values.specs.Items.{token_of};
@@ -48,20 +47,6 @@ pub(crate) fn has_bad_literal(toks: &[Tok], has: &[bool]) -> bool
     false
 }
 
-fn depth_after(tok: &Tok, depth: u32) -> u32
-    requires { depth ≤ 256 }
-    ensures value { result ≡ depth_after tok.now depth }
-    ensures small { result ≤ 257 }
-{
-    if tok.is_open_paren() {
-        depth + 1
-    } else if tok.is_close_paren() {
-        depth.saturating_sub(1)
-    } else {
-        depth
-    }
-}
-
 fn opens_operand(before: Option<&Tok>) -> bool
     ensures { result ≡ opens_operand (option_map (λ t. t.now) before.entry) }
 {
@@ -98,7 +83,7 @@ fn questions_after(tok: &Tok, questions: u32) -> u32
     }
 }
 
-fn is_over(opened: u32, row: u32, questions: u32) -> bool
+fn is_over(opened: usize, row: u32, questions: u32) -> bool
     ensures { result ≡ is_over opened row questions }
 {
     (opened > 256) | (row > 256) | (questions > 256)
@@ -109,12 +94,12 @@ fn is_over(opened: u32, row: u32, questions: u32) -> bool
 pub(crate) fn is_too_deep(toks: &[Tok]) -> bool
     ensures { result ≡ is_too_deep 0 0 0 None toks.now }
 {
-    let mut opened = 0;
+    let mut opened = 0usize;
     let mut row = 0;
     let mut questions = 0;
     let mut before = None;
     'depth: for tok in toks {
-        opened = depth_after(tok, opened);
+        opened = tok.depth_after(opened);
         row = row_after(before, tok, row);
         questions = questions_after(tok, questions);
         if is_over(opened, row, questions) {

@@ -1,10 +1,10 @@
 ghost use Rattle.std.specs.Prelude.{◌≡◌, ◌≤◌, ◌<◌, ◌+◌, IfSome, length, drop};
 ghost use Rattle.std.specs.Option.{option_map};
-ghost use Rattle.scan_model.specs.HeaderName.{form_of, name_of, angled, header_or_name, has_name, has_at, next_has};
+ghost use Rattle.scan_model.specs.HeaderName.{name_of, angled, header_or_name, has_name, has_at, next_has};
 ghost use Rattle.if_values.specs.Names.{shape, name_shape, past_angle};
 
-use crate::token_tests::{is_greater, is_has, is_has_next, is_less};
-use scan_model::{Form, HasAt, HasNext, Kind, Tok};
+use crate::token_tests::{is_has, is_has_next};
+use scan_model::{Form, HasAt, HasNext, Tok};
 
 /// The form of a header's name, and what follows the name ([cpp.include]).
 #[derive(Clone, Copy)]
@@ -18,7 +18,7 @@ fn past_angle(toks: &[Tok]) -> Option<&[Tok]>
     ensures within { IfSome result (λ ts. length ts.now < length toks.now) }
 {
     'angle: for (i, tok) in toks.iter().enumerate() {
-        if is_greater(tok) {
+        if tok.is_greater() {
             return Some(&toks[i + 1..]);
         }
     }
@@ -30,7 +30,7 @@ fn angled(toks: &[Tok]) -> Option<Name<'_>>
     ensures value { option_map name_shape result ≡ option_map shape (angled toks.now) }
     ensures within { IfSome result (λ n. length n.after.now < length toks.now) }
 {
-    if toks.is_empty() || is_greater(&toks[0]) {
+    if toks.is_empty() || toks[0].is_greater() {
         return None;
     }
     let after = past_angle(&toks[1..])?;
@@ -48,7 +48,7 @@ fn name_of(toks: &[Tok]) -> Option<Name<'_>>
     if toks.is_empty() {
         return None;
     }
-    if is_less(&toks[0]) {
+    if toks[0].is_less() {
         return angled(&toks[1..]);
     }
     if toks[0].is_plain_string() && toks[0].text.as_slice().len() > 2 {
@@ -61,16 +61,6 @@ fn name_of(toks: &[Tok]) -> Option<Name<'_>>
     }
 }
 
-fn form_of(text: &[u8]) -> Form
-    ensures { result ≡ form_of text.now }
-{
-    if !text.is_empty() && text[0] == b'<' {
-        Form::Angled
-    } else {
-        Form::Quoted
-    }
-}
-
 fn header_or_name(toks: &[Tok]) -> Option<Name<'_>>
     ensures value { option_map name_shape result ≡ option_map shape (header_or_name toks.now) }
     ensures within { IfSome result (λ n. length n.after.now < length toks.now) }
@@ -78,9 +68,9 @@ fn header_or_name(toks: &[Tok]) -> Option<Name<'_>>
     if toks.is_empty() {
         return None;
     }
-    if matches!(toks[0].kind, Kind::Header) {
+    if toks[0].is_header() {
         Some(Name {
-            form: form_of(toks[0].text.as_slice()),
+            form: Form::of(toks[0].text.as_slice()),
             after: &toks[1..],
         })
     } else {

@@ -36,18 +36,6 @@ pub(crate) fn is_double_colon(tok: &Tok) -> bool
     matches!(tok.kind, Kind::Punct) && tok.text.as_slice() == b"::".as_slice()
 }
 
-pub(crate) fn is_less(tok: &Tok) -> bool
-    ensures { result ≡ is_sign ("<" ∷ []) tok.now }
-{
-    matches!(tok.kind, Kind::Punct) && tok.text.as_slice() == b"<".as_slice()
-}
-
-pub(crate) fn is_greater(tok: &Tok) -> bool
-    ensures { result ≡ is_sign (">" ∷ []) tok.now }
-{
-    matches!(tok.kind, Kind::Punct) && tok.text.as_slice() == b">".as_slice()
-}
-
 /// A `__has_include` or a `__has_include_next` ([cpp.cond]).
 pub(crate) fn is_has(tok: &Tok) -> bool
     ensures { result ≡ is_has tok.now }

@@ -1,4 +1,5 @@
 ghost use Rattle.std.specs.Prelude.{◌≤◌, length};
+ghost use Rattle.scan_model.specs.Limits.{file_limit};
 
 use super::*;
 use line_splice::Cursor;
@@ -6,7 +7,7 @@ use std::process::Abort;
 
 // A name of the text's first bytes, up to the place, begins it.
 fn name(rt: &impl Abort, text: &[u8], place: usize)
-    requires { length text.now ≤ 33554432 }
+    requires { length text.now ≤ file_limit }
 {
     let mut at = Cursor::new(text);
     assert_eq!(rt; begins_name(&at), place > 0);
@@ -30,7 +31,7 @@ fn names(rt: HostRuntime) {
 
 // A number of the text's first bytes, up to the place, begins it.
 fn number(rt: &impl Abort, text: &[u8], place: usize)
-    requires { length text.now ≤ 33554432 }
+    requires { length text.now ≤ file_limit }
 {
     let mut at = Cursor::new(text);
     assert_eq!(rt; begins_number(&at), place > 0);
@@ -56,7 +57,7 @@ fn numbers(rt: HostRuntime) {
 
 // This literal opens at the text's front.
 fn opens(rt: &impl Abort, text: &[u8], want: Option<Opening>)
-    requires { length text.now ≤ 33554432 }
+    requires { length text.now ≤ file_limit }
 {
     assert!(rt; literal_at(&Cursor::new(text)) == want);
 }
@@ -78,7 +79,7 @@ fn openings(rt: HostRuntime) {
 
 // The literal that opens at the text's front, closed or not, ends at the place.
 fn quoted(rt: &impl Abort, text: &[u8], closed: bool, place: usize)
-    requires { length text.now ≤ 33554432 }
+    requires { length text.now ≤ file_limit }
 {
     let mut at = Cursor::new(text);
     match literal_at(&at) {
@@ -105,7 +106,7 @@ fn quoted_literals(rt: HostRuntime) {
 
 // A header name of the text's first bytes, up to the place, begins it.
 fn header(rt: &impl Abort, text: &[u8], place: usize)
-    requires { length text.now ≤ 33554432 }
+    requires { length text.now ≤ file_limit }
 {
     let mut at = Cursor::new(text);
     assert_eq!(rt; pass_header(&mut at), place > 0);
@@ -127,7 +128,7 @@ fn headers(rt: HostRuntime) {
 
 // The character, or the byte, that begins the text ends at the place.
 fn character(rt: &impl Abort, text: &[u8], place: usize)
-    requires { length text.now ≤ 33554432 }
+    requires { length text.now ≤ file_limit }
 {
     let mut at = Cursor::new(text);
     if let Some(byte) = at.peek() {
@@ -160,7 +161,7 @@ fn bytes_up_to_one_are_passed_at_once(rt: HostRuntime) {
 
 // A raw string begins the text: where it is written from and to, and the place after its suffix.
 fn raw(rt: &impl Abort, text: &[u8], closed: bool, written: (usize, usize), place: usize)
-    requires { length text.now ≤ 33554432 }
+    requires { length text.now ≤ file_limit }
 {
     let mut at = Cursor::new(text);
     if literal_at(&at) != Some(Opening::Raw) {
@@ -180,7 +181,7 @@ fn raw(rt: &impl Abort, text: &[u8], closed: bool, written: (usize, usize), plac
 
 // The stray rest of the line begins the text, up to the place.
 fn stray(rt: &impl Abort, text: &[u8], place: usize)
-    requires { length text.now ≤ 33554432 }
+    requires { length text.now ≤ file_limit }
 {
     let mut at = Cursor::new(text);
     if literal_at(&at) != Some(Opening::Raw) {

@@ -140,25 +140,6 @@ module _ (files : FileMap (List Line)) (setup : Setup) (c : Core) (l : Line) (ts
   if_skipped Nothing e s = cc
   if_skipped Unknown e s = cc
 
-  pub plain_skipped : (directive : Directive) → is_plain directive ≡ true → is_skipped c.stack ≡ true → hash_line files setup c l ts directive ≡ now c
-  plain_skipped If e s = cc
-  plain_skipped Ifdef e s = cc
-  plain_skipped Ifndef e s = cc
-  plain_skipped Elif e s = cc
-  plain_skipped Elifdef e s = cc
-  plain_skipped Elifndef e s = cc
-  plain_skipped Else e s = cc
-  plain_skipped Endif e s = cc
-  plain_skipped Define e s = rw s refl
-  plain_skipped Undef e s = rw s refl
-  plain_skipped Include e s = rw s refl
-  plain_skipped IncludeNext e s = rw s refl
-  plain_skipped Renumber e s = rw s refl
-  plain_skipped Error e s = rw s refl
-  plain_skipped Pragma e s = rw s refl
-  plain_skipped Nothing e s = rw s refl
-  plain_skipped Unknown e s = rw s refl
-
   pub plain_done : (directive : Directive) → is_plain directive ≡ true → is_skipped c.stack ≡ false → hash_line files setup c l ts directive ≡ plain_line files setup c l ts directive
   plain_done If e s = cc
   plain_done Ifdef e s = cc

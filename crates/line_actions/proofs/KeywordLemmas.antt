@@ -16,7 +16,7 @@ use Rattle.scan_model.specs.Expansion.{expand}
 use Rattle.scan_model.specs.Macros.{Macros}
 use Rattle.scan_model.specs.State.{Core}
 use Rattle.scan_model.specs.Stream.{ModuleLine}
-use Rattle.scan_model.specs.Effect.{Effect, Now, Sends, stop}
+use Rattle.scan_model.specs.Effect.{Effect, Sends, stop}
 use Rattle.scan_model.specs.Replacing.{with_replaced}
 use Rattle.scan_model.specs.KeywordLines.{is_object_like, as_keyword, keyword_of, keyword_kind, sent, keyword_line, module_line}
 use Rattle.scan_model.specs.Utf8Names.{HaveUtf8Names}
@@ -31,7 +31,7 @@ use Rattle.plain_lines.specs.declared.state.UnitState.{UnitState}
 use Rattle.plain_lines.specs.States.{core_of}
 use Rattle.plain_lines.specs.Lines.{line_of}
 use Rattle.plain_lines.specs.Actions.{Acts}
-use Rattle.plain_lines.proofs.ActLemmas.{acts_as, acts_stops, acts_nothing}
+use Rattle.plain_lines.proofs.ActLemmas.{acts_as, acts_stops}
 use Rattle.line_actions.specs.Replaced.{outcome}
 use Rattle.line_actions.specs.Sent.{IsSent}
 
@@ -97,14 +97,6 @@ module _ (at : KeptLine) (exported : Bool) (before : List Tok) (t : Tok) where
         (λ files setup d entered looked. let c = core_of at.path.now entered looked file unit in
         by_test c ∙ ap (λ b. cond b (stop FaultIs.KeywordIsMacro c (line_of at)) (with_replaced ModeIs.Line c (line_of at) ts (sent c (line_of at) exported before t))) e)
 
-none_of : (c : Core) (l : Line) (exported : Bool) (before toks : List Tok) → toks ≡ [] → keyword_line {X = List Line} c l exported before toks ≡ Now c
-none_of c l exported before [] e = refl
-none_of c l exported before (t ∷ ts) e = cc
-
-pub keyword_none : (at : KeptLine) (exported : Bool) (before toks : List Tok) (file : FileState) (unit : UnitState) → toks ≡ [] → Acts at (λ files setup c. keyword_line c (line_of at) exported before toks) file unit file unit Goes
-keyword_none at exported before toks file unit e = acts_nothing at (λ files setup c. keyword_line c (line_of at) exported before toks) file unit
-    (λ files setup d entered looked. none_of (core_of at.path.now entered looked file unit) (line_of at) exported before toks e)
-
 -- ## The whole line
 
 module _ (c : Core) (l : Line) (t : Tok) where
@@ -115,9 +107,4 @@ module _ (c : Core) (l : Line) (t : Tok) where
   pub module_exported : (toks ts : List Tok) → toks ≡ t ∷ ts → spells "export" t.text ≡ true → is_object_like (c.macros.defs t.text) ≡ false → module_line {X = List Line} c l toks ≡ keyword_line c l true (as_keyword ExportKw t ∷ []) (drop 1 toks)
   module_exported toks ts is e m = ap (module_line c l) is ∙ by ∙ ap (λ us. keyword_line c l true (as_keyword ExportKw t ∷ []) (drop 1 us)) (sym is) where
     by : module_line {X = List Line} c l (t ∷ ts) ≡ keyword_line c l true (as_keyword ExportKw t ∷ []) ts
-    by = rw (e, m) refl
-
-  pub module_macro : (toks ts : List Tok) → toks ≡ t ∷ ts → spells "export" t.text ≡ true → is_object_like (c.macros.defs t.text) ≡ true → module_line {X = List Line} c l toks ≡ stop FaultIs.KeywordIsMacro c l
-  module_macro toks ts is e m = ap (module_line c l) is ∙ by where
-    by : module_line {X = List Line} c l (t ∷ ts) ≡ stop FaultIs.KeywordIsMacro c l
     by = rw (e, m) refl

@@ -1,12 +1,11 @@
 -- The names of headers, as the code reads them ([cpp.include]).
-use Rattle.std.proofs.Common.{◌≡◌, ℕ, ◌<◌, Bool, true, false, cond, List, [], ◌∷◌, ◌++◌, drop, length, get_or, refl, ap, sym, ◌∙◌, arith, append_assoc, append-nil}
+use Rattle.std.proofs.Common.{◌≡◌, ℕ, ◌<◌, Bool, true, false, cond, List, [], ◌∷◌, ◌++◌, drop, length, get_or, refl, ap, sym, ◌∙◌, arith}
 use Rattle.std.specs.Prelude.{Option, Some, None, ◌==◌}
 use Rattle.std.specs.Option.{option_map, option_and_then}
 use Rattle.scan_model.specs.declared.token.Tok.{Tok}
 use Rattle.scan_model.specs.declared.token.Line.{Line}
 use Rattle.scan_model.specs.declared.command.Form.TheVariants.{Quoted, Angled}
 use Rattle.scan_model.specs.TokenTests.{is_of, begins_with, is_sign, is_plain_string, unquoted}
-use Rattle.scan_model.specs.ModuleLines.{Builder}
 use Rattle.scan_model.specs.HeaderName.{Named, form_of, nonempty, written_before, angled_rest, angled, name_of, header_or_name}
 use Rattle.scan_model.specs.Files.{FileMap}
 use Rattle.scan_model.specs.State.{Setup, Core}
@@ -15,33 +14,10 @@ use Rattle.scan_model.specs.declared.expansion.Mode.TheVariants as ModeIs
 use Rattle.scan_model.specs.Effect.{Effect}
 use Rattle.scan_model.specs.Replacing.{with_replaced}
 use Rattle.scan_model.specs.declared.unit_end.FaultKind.TheVariants as FaultIs
-use Rattle.scan_model.specs.Search.{search_form}
-use Rattle.plain_lines.specs.declared.action.Action.TheVariants.{Stops, Includes}
-use Rattle.plain_lines.specs.declared.kept_line.KeptLine.{KeptLine}
-use Rattle.plain_lines.specs.Lines.{line_of}
-use Rattle.plain_lines.specs.Actions.{Does}
-use Rattle.line_actions.specs.Names.{form_and_name, angled_name, quoted_name, spelled_on, spelled_rest, spelled, included}
+use Rattle.line_actions.specs.Names.{form_and_name, angled_name, quoted_name, spelled_on, spelled_rest, spelled}
 use Rattle.scan_model.specs.declared.token.Kind.TheVariants.{Header}
 
 -- ## Names in angle brackets
-
-map_append : (a b : List ℕ) (o : Option (List ℕ)) → option_map (a ++◌) (option_map (b ++◌) o) ≡ option_map ((a ++ b) ++◌) o
-map_append a b None = refl
-map_append a b (Some s) = ap (λ t. Some t) (sym (append_assoc a b s))
-
-none_of : (a : List ℕ) (o : Option (List ℕ)) → option_map (a ++◌) o ≡ None → o ≡ None
-none_of a None e = refl
-none_of a (Some s) e = cc
-
--- a token that isn't `>` is added
-pub rest_goes : (name name' : List ℕ) (t : Tok) (ts : List Tok) → is_sign (">" ∷ []) t ≡ false → name' ≡ name ++ spelled_on t → option_map (name' ++◌) (spelled_rest ts) ≡ option_map (name ++◌) (spelled_rest (t ∷ ts))
-rest_goes name name' t ts e is = ap (λ (s : List ℕ). option_map (s ++◌) (spelled_rest ts)) is ∙ sym (map_append name (spelled_on t) (spelled_rest ts)) ∙ rw e refl
-
-pub rest_ends : (name : List ℕ) (t : Tok) (ts : List Tok) → is_sign (">" ∷ []) t ≡ true → option_map (name ++◌) (spelled_rest (t ∷ ts)) ≡ Some name
-rest_ends name t ts e = rw e (ap (λ s. Some s) (append-nil name))
-
-pub rest_lacks : (name : List ℕ) (ts : List Tok) → option_map (name ++◌) (spelled_rest []) ≡ option_map (name ++◌) (spelled_rest ts) → spelled_rest ts ≡ None
-rest_lacks name ts e = none_of name (spelled_rest ts) (sym e)
 
 angled_map : (s : List ℕ) (o : Option Named) (p : Option (List ℕ)) → option_map form_and_name o ≡ option_map angled_name p → option_map form_and_name (option_map (written_before s) o) ≡ option_map angled_name (option_map (s ++◌) p)
 angled_map s None None e = refl
@@ -117,14 +93,6 @@ module _ (toks : List Tok) (t : Tok) (some : 0 < length toks) (here : t ≡ get_
   no_header e = ap header_or_name (first_is toks t some here) ∙ no_header_first t (drop 1 toks) e ∙ ap name_of (sym (first_is toks t some here))
 
 -- ## What an include of a name does
-
-pub included_does : (files : FileMap (List Line)) (setup : Setup) (at : KeptLine) (c : Core) (b : Builder) (next : Bool) (o : Option Named) →
-    Does files setup at c b c b (include_named next files setup c (line_of at) (option_and_then nonempty o)) (included c.chain_place next (option_map form_and_name o))
-included_does files setup at c b next None = (refl, (refl, refl))
-included_does files setup at c b next (Some n) = by (length n.name == 0) where
-  by : (e : Bool) → Does files setup at c b c b (include_named next files setup c (line_of at) (cond e None (Some n))) (cond e (Stops FaultIs.IncludeSyntax) (Includes (search_form next c.chain_place n.form) n.name))
-  by true = (refl, (refl, refl))
-  by false = (refl, (refl, refl))
 
 -- what an include does where no header stands after its word
 abbrev pub by_replaced : Bool → FileMap (List Line) → Setup → Core → Line → List Tok → Effect (List Line)

@@ -52,9 +52,6 @@ module _ (at : KeptLine) (mode : Mode) (toks : List Tok) (further : Further) (fi
   same_core : (entered : ℕ) (looked : List (List ℕ)) → core_of at.path.now entered looked sited unit ≡ core_of at.path.now entered looked file unit
   same_core entered looked = ap (λ s. let c : Core = record (core_of at.path.now entered looked file unit) { site = s } in c) same
 
-  pub same_sited : IsSame at.path.now file unit sited unit
-  same_sited entered looked = (same_core entered looked, refl)
-
   effect_is : (files : FileMap (List Line)) (setup : Setup) (entered : ℕ) (looked : List (List ℕ)) (r : Result (List Tok) FaultKind) → r ≡ given →
       let c = core_of at.path.now entered looked file unit in
       with_replaced mode c (line_of at) toks (further files setup c) ≡ on_outcome c (line_of at) (further files setup c) r

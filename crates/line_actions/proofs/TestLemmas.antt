@@ -3,6 +3,7 @@ use Rattle.std.proofs.Common.{◌≡◌, ℕ, ◌+◌, ◌<◌, ◌≤◌, Bool,
 use Rattle.std.specs.Prelude.{Option, Some, None, IsTrue, is_some}
 use Rattle.std.specs.Option.{option_map}
 use Rattle.std.proofs.lemmas.Bool.{true≢false}
+use Rattle.std.proofs.lemmas.Option.{same_Some}
 use Rattle.scan_model.specs.declared.token.Tok.{Tok}
 use Rattle.scan_model.specs.declared.command.Form.{Form}
 use Rattle.scan_model.specs.declared.condition.HasAt.{HasAt}
@@ -37,12 +38,9 @@ found_by toks from h name (Some us) None e f some l w t = cc
 found_by toks from h name (Some us) (Some vs) e f some l w t =
     let same : from_first_test us ≡ Has h.next name.form name.name ∷ vs = cc in (us, (vs, (e, same, f, l, w)))
 
-some_is : {A : Type 0} (x y : A) → Some x ≡ Some y → x ≡ y
-some_is x y e = cc
-
 named_as : (form : Form) (name : List ℕ) (o : Option Named) (n : Named) → option_map form_and_name o ≡ Some (form, name) → o ≡ Some n → form_and_name n ≡ (form, name)
 named_as form name None n e f = cc
-named_as form name (Some m) n e f = ap form_and_name (sym (some_is m n f)) ∙ some_is (form_and_name m) (form, name) e
+named_as form name (Some m) n e f = ap form_and_name (sym (same_Some m n f)) ∙ same_Some (form_and_name m) (form, name) e
 
 pub finds_test : (toks : List Tok) (from : ℕ) (h : HasAt) (form : Form) (name : List ℕ) → IsTrue (is_some (terms (drop from toks))) → Walked toks (drop from toks) from (At h) →
     option_map form_and_name (header_or_name (drop h.first toks)) ≡ Some (form, name) → Finds toks from (Some (record { next = h.next; form = form; name = name; past = h.past + 1 }))

@@ -1,5 +1,5 @@
 -- Conditions by their tests ([cpp.cond]).
-use Rattle.std.proofs.Common.{◌≡◌, ℕ, ◌+◌, ◌<◌, Bool, List, [], ◌∷◌, length, refl, ap, sym, ◌∙◌, subst, arith}
+use Rattle.std.proofs.Common.{◌≡◌, ℕ, ◌+◌, ◌<◌, Bool, List, [], ◌∷◌, refl, ap, ◌∙◌, subst, arith}
 use Rattle.std.specs.Prelude.{Option, Some, None}
 use Rattle.std.specs.Option.{option_map}
 use Rattle.scan_model.specs.declared.token.Tok.{Tok}
@@ -10,23 +10,16 @@ use Rattle.scan_model.specs.Condition.{value}
 use Rattle.scan_model.specs.Files.{FileMap}
 use Rattle.scan_model.specs.State.{Setup, Core}
 use Rattle.scan_model.specs.Effect.{Effect}
-use Rattle.scan_model.specs.Conditionals.{with_has_values, on_value, on_terms}
-use Rattle.if_values.specs.Known.{has_count, HasEntries}
+use Rattle.scan_model.specs.Conditionals.{with_has_values, on_value, on_terms, on_chosen, opening_of}
+use Rattle.if_values.specs.Known.{has_count}
 use Rattle.plain_lines.specs.declared.action.Action.{Action}
-use Rattle.plain_lines.specs.declared.action.Action.TheVariants.{Stops, Tests}
 use Rattle.plain_lines.specs.declared.kept_line.KeptLine.{KeptLine}
 use Rattle.plain_lines.specs.declared.state.FileState.{FileState}
 use Rattle.plain_lines.specs.declared.state.UnitState.{UnitState}
 use Rattle.plain_lines.specs.States.{core_of}
-use Rattle.plain_lines.specs.Conditions.{on_chosen, opening_of, from_first_test, test_count}
-use Rattle.plain_lines.specs.Lines.{line_of, BeginsGroup}
+use Rattle.plain_lines.specs.Lines.{line_of}
 use Rattle.plain_lines.specs.Actions.{LineEffect, Acts}
-use Rattle.plain_lines.proofs.ActLemmas.{acts_as, acts_stops}
-
-counts : (ts : List Term) → has_count ts ≡ test_count ts
-counts [] = refl
-counts (Plain t ∷ ts) = counts ts
-counts (Has next form name ∷ ts) = ap (λ n. 1 + n) (counts ts)
+use Rattle.plain_lines.proofs.ActLemmas.{acts_as}
 
 module _ (files : FileMap (List Line)) (setup : Setup) (l : Line) where
   no_tests : (ts : List Term) (c : Core) (further : List Bool → Core → Effect (List Line)) → 0 ≡ has_count ts → with_has_values files setup l ts c further ≡ further [] c
@@ -34,22 +27,9 @@ module _ (files : FileMap (List Line)) (setup : Setup) (l : Line) where
   no_tests (Plain t ∷ ts) c further e = no_tests ts c further e
   no_tests (Has next form name ∷ ts) c further e = absurd (omega arith)
 
-  -- the terms before the first test change nothing
-  pub first_test_first : (ts : List Term) (c : Core) (further : List Bool → Core → Effect (List Line)) → with_has_values files setup l ts c further ≡ with_has_values files setup l (from_first_test ts) c further
-  first_test_first [] c further = refl
-  first_test_first (Plain t ∷ ts) c further = first_test_first ts c further
-  first_test_first (Has next form name ∷ ts) c further = refl
-
 counted : (n : ℕ) (o : Option (List Term)) → Some n ≡ option_map has_count o → (ts : List Term) × ((o ≡ Some ts) × (n ≡ has_count ts))
 counted n None e = cc
 counted n (Some ts) e = (ts, (refl, cc))
-
-uncounted : (o : Option (List Term)) → None ≡ option_map has_count o → o ≡ None
-uncounted None e = refl
-uncounted (Some ts) e = cc
-
-pub no_entries : (toks : List Tok) (has : List Bool) → Some 0 ≡ option_map has_count (terms toks) → has ≡ [] → HasEntries toks has
-no_entries toks has e is = sym e ∙ ap (λ (h : List Bool). Some (length h)) (sym is)
 
 module _ (at : KeptLine) (toks : List Tok) (is_elif : Bool) (file : FileState) (unit : UnitState) where
   -- what the condition does
@@ -58,10 +38,6 @@ module _ (at : KeptLine) (toks : List Tok) (is_elif : Bool) (file : FileState) (
 
   abbrev by_value : List Bool → LineEffect
   by_value has files setup c = on_value (line_of at) (on_chosen (line_of at) (opening_of is_elif c.stack)) (value toks has) c
-
-  pub malformed : None ≡ option_map has_count (terms toks) → Acts at by_terms file unit file unit (Stops FaultIs.BadCondition)
-  malformed e = acts_stops at by_terms file unit FaultIs.BadCondition
-      (λ files setup d entered looked. let c = core_of at.path.now entered looked file unit in ap (on_terms files setup c (line_of at) toks (on_chosen (line_of at) (opening_of is_elif c.stack))) (uncounted (terms toks) e))
 
   pub concluded : (seen : List Tok) (file' : FileState) (unit' : UnitState) (action : Action) → seen ≡ toks → Some 0 ≡ option_map has_count (terms toks) →
       Acts at (λ files setup c. on_value (line_of at) (on_chosen (line_of at) (opening_of is_elif c.stack)) (value seen []) c) file unit file' unit' action → Acts at by_terms file unit file' unit' action
@@ -72,20 +48,3 @@ module _ (at : KeptLine) (toks : List Tok) (is_elif : Bool) (file : FileState) (
       ap (on_terms files setup c (line_of at) toks (on_chosen (line_of at) (opening_of is_elif c.stack))) found.1.0
       ∙ no_tests files setup (line_of at) found.0 c (λ has. on_value (line_of at) (on_chosen (line_of at) (opening_of is_elif c.stack)) (value toks has)) found.1.1)
       (subst (λ (ts : List Tok). Acts at (λ files setup c. on_value (line_of at) (on_chosen (line_of at) (opening_of is_elif c.stack)) (value ts []) c) file unit file' unit' action) same h)
-
-  pub tests_asked : (n : ℕ) → Some n ≡ option_map has_count (terms toks) → 0 < n → BeginsGroup at → Acts at by_terms file unit file unit (Tests (record { toks = toks; is_elif = is_elif; tests = n }))
-  tests_asked n e some g = λ files setup d entered looked.
-      let c = core_of at.path.now entered looked file unit in
-      let found = counted n (terms toks) e in (
-        found.0,
-        (
-          record {
-            terms = found.1.0;
-            tests = found.1.1 ∙ counts found.0;
-            some = some;
-            effect = ap (on_terms files setup c (line_of at) toks (on_chosen (line_of at) (opening_of is_elif c.stack))) found.1.0;
-          },
-          (refl, refl),
-          g,
-        ),
-      )

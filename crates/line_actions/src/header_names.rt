@@ -1,47 +1,18 @@
-ghost use Rattle.std.specs.Prelude.{◌≡◌, [], ◌∷◌, ◌++◌, IfOk, OnOk};
+ghost use Rattle.std.specs.Prelude.{◌≡◌, ◌++◌, IfOk, OnOk};
 ghost use Rattle.std.specs.Option.{option_map};
-ghost use Rattle.scan_model.specs.declared.token.Kind.TheVariants.{Header};
-ghost use Rattle.scan_model.specs.TokenTests.{is_of, is_sign, unquoted};
+ghost use Rattle.scan_model.specs.TokenTests.{unquoted};
 ghost use Rattle.scan_model.specs.HeaderName.{form_of, name_of, header_or_name};
 ghost use Rattle.line_actions.specs.Names.{form_and_name, angled_name, quoted_name, spelled, spelled_on, ClosedBy};
 
 use plain_lines::unquoted;
-use scan_model::{Bytes, Form, Kind, NoMemory, Tok};
+use scan_model::{Bytes, Form, NoMemory, Tok};
 use std::alloc::Global;
-
-fn form_of(text: &[u8]) -> Form
-    ensures { result ≡ form_of text.now }
-{
-    if !text.is_empty() && text[0] == b'<' {
-        Form::Angled
-    } else {
-        Form::Quoted
-    }
-}
 
 /// The form and the name of a token that is a header ([lex.header]).
 pub(crate) fn header_name(alloc: Global, text: &[u8]) -> Result<(Form, Bytes), NoMemory>
     ensures { IfOk result (λ name. name ≡ (form_of text.now, unquoted text.now)) }
 {
-    Ok((form_of(text), Bytes::copy(alloc, unquoted(text))?))
-}
-
-fn is_header(tok: &Tok) -> bool
-    ensures { result ≡ is_of Header tok.now }
-{
-    matches!(tok.kind, Kind::Header)
-}
-
-fn is_less(tok: &Tok) -> bool
-    ensures { result ≡ is_sign ("<" ∷ []) tok.now }
-{
-    matches!(tok.kind, Kind::Punct) && tok.text.as_slice() == b"<".as_slice()
-}
-
-fn is_greater(tok: &Tok) -> bool
-    ensures { result ≡ is_sign (">" ∷ []) tok.now }
-{
-    matches!(tok.kind, Kind::Punct) && tok.text.as_slice() == b">".as_slice()
+    Ok((Form::of(text), Bytes::copy(alloc, unquoted(text))?))
 }
 
 // Adds the spelling of a token behind others.
@@ -60,7 +31,7 @@ fn push_to_angle(name: &mut Vec<u8>, toks: &[Tok]) -> Result<bool, NoMemory>
     ensures { IfOk result (ClosedBy name.old.items toks.now name.new.items) }
 {
     'toks: for tok in toks {
-        if is_greater(tok) {
+        if tok.is_greater() {
             return Ok(true);
         }
         push_spelling(name, tok)?;
@@ -72,7 +43,7 @@ fn push_to_angle(name: &mut Vec<u8>, toks: &[Tok]) -> Result<bool, NoMemory>
 fn angled(alloc: Global, toks: &[Tok]) -> Result<Option<Bytes>, NoMemory>
     ensures { IfOk result (λ name. name ≡ spelled toks.now) }
 {
-    if toks.is_empty() || is_greater(&toks[0]) {
+    if toks.is_empty() || toks[0].is_greater() {
         return Ok(None);
     }
     let mut name = Vec::from_slice(alloc, toks[0].text.as_slice())?;
@@ -95,7 +66,7 @@ pub(crate) fn name_of(alloc: Global, toks: &[Tok]) -> Result<Option<(Form, Bytes
     if first.is_plain_string() {
         return quoted(alloc, first.text.as_slice());
     }
-    if !is_less(first) {
+    if !first.is_less() {
         return Ok(None);
     }
     Ok(as_angled(angled(alloc, &toks[1..])?))
@@ -129,7 +100,7 @@ pub(crate) fn header_or_name(alloc: Global, toks: &[Tok]) -> Result<Option<(Form
         return Ok(None);
     }
     let first = &toks[0];
-    if is_header(first) {
+    if first.is_header() {
         return Ok(Some(header_name(alloc, first.text.as_slice())?));
     }
     name_of(alloc, toks)

@@ -2,6 +2,7 @@ ghost use Rattle.std.specs.Prelude.{◌≡◌, ◌≢◌, ◌+◌, ◌-◌, ◌�
 ghost use Rattle.std.specs.List.{list_all};
 ghost use Rattle.scan_model.specs.Tokens.{bytes, from_place};
 ghost use Rattle.scan_model.specs.Spliced.{spliced, last_line, byte_at, line_at, place_at};
+ghost use Rattle.scan_model.specs.Limits.{file_limit};
 ghost use Rattle.line_splice.specs.Rest.{at_splice, rest_of};
 
 use crate::splices::{begins_plain, front, mark_len, newlines, plain_end, splices_len};
@@ -17,7 +18,7 @@ pub struct Cursor<'a> {
     line: u32,
     // the byte that showed last, or 0
     last: u8,
-    ghost small: { length text.now ≤ 33554432 },
+    ghost small: { length text.now ≤ file_limit },
     ghost within: { place ≤ length text.now },
     ghost few_lines: { line ≤ place + 1 },
     ghost shows: { IsFalse (at_splice (drop place text.now)) },
@@ -38,7 +39,7 @@ impl<'a> Cursor<'a> {
     /// Stands at the first byte that shows. A text has at most 32 MiB.
     #[tactic(auto, unfolding(crate::specs::Cursor::rest))]
     pub fn new(text: &'a [u8]) -> Cursor<'a>
-        requires { length text.now ≤ 33554432 }
+        requires { length text.now ≤ file_limit }
         ensures text { text_of result ≡ text.now }
         ensures rest { rest result ≡ spliced text.now }
     {

@@ -1,5 +1,6 @@
 ghost use Rattle.std.specs.Prelude.{◌≡◌, ◌↔◌, ◌+◌, ◌-◌, ◌<◌, ◌≤◌, ℕ, length, take, drop, slice_index, IsTrue, IsFalse, MatchOption};
 ghost use Rattle.scan_model.specs.Spliced.{shown, mark_len};
+ghost use Rattle.scan_model.specs.Limits.{file_limit};
 ghost use Rattle.line_splice.specs.Plain.{shows_itself, newlines, BeginsPlain};
 ghost use Rattle.line_splice.specs.Rest.{at_splice, newline_len, IsEnd, Shows};
 
@@ -21,7 +22,7 @@ fn newline_len(text: &[u8]) -> usize
 
 // How many bytes the splices take that the text begins with, and how many lines they end.
 pub fn splices_len(text: &[u8]) -> (usize, u32)
-    requires { length text.now ≤ 33554432 }
+    requires { length text.now ≤ file_limit }
     ensures within { result.0 ≤ length text.now }
     ensures few { result.1 ≤ result.0 }
     ensures all { IsFalse (at_splice (drop result.0 text.now)) }
@@ -69,7 +70,7 @@ fn newlines_at(written: &[u8], place: usize) -> u32
 
 // How many lines the bytes end, one by one.
 fn few_newlines(written: &[u8]) -> u32
-    requires { length written.now ≤ 33554432 }
+    requires { length written.now ≤ file_limit }
     ensures count { result ≡ newlines written.now }
     ensures few { result ≤ length written.now }
 {
@@ -84,7 +85,7 @@ fn few_newlines(written: &[u8]) -> u32
 
 // How many lines the bytes end.
 pub fn newlines(written: &[u8]) -> u32
-    requires { length written.now ≤ 33554432 }
+    requires { length written.now ≤ file_limit }
     ensures count { result ≡ newlines written.now }
     ensures few { result ≤ length written.now }
 {

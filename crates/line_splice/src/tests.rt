@@ -1,4 +1,5 @@
 ghost use Rattle.std.specs.Prelude.{◌≤◌, length};
+ghost use Rattle.scan_model.specs.Limits.{file_limit};
 
 use super::*;
 use std::process::Abort;
@@ -6,7 +7,7 @@ use std::test::Fail;
 
 // Exactly these bytes show, each with its place and its line, and the last line is that.
 fn shows(rt: &impl Abort, text: &[u8], spots: &[(u8, usize, u32)], last: u32) -> Result<(), Fail>
-    requires { length text.now ≤ 33554432 }
+    requires { length text.now ≤ file_limit }
 {
     let mut at = Cursor::new(text);
     for &(byte, place, line) in spots {

@@ -1,10 +1,7 @@
 -- What a line does, from what its parts do.
 use Rattle.std.proofs.Common.{◌≡◌, ℕ, Bool, true, List, refl, ap, sym, ◌∙◌, subst}
-use Rattle.std.specs.Prelude.{Option, Result, Ok, Err, IfOk}
-use Rattle.std.specs.declared.alloc.Global.{Global}
-use Rattle.std.specs.declared.vec.Vec.{Vec}
+use Rattle.std.specs.Prelude.{Result, Ok, Err, IfOk}
 use Rattle.scan_model.specs.declared.token.Line.{Line}
-use Rattle.scan_model.specs.declared.expansion.Site.{Site}
 use Rattle.scan_model.specs.Files.{FileMap}
 use Rattle.scan_model.specs.State.{Setup, Core}
 use Rattle.scan_model.specs.Effect.{Effect, Now, stop}
@@ -14,14 +11,13 @@ use Rattle.plain_lines.specs.declared.action.Action.TheVariants.{Goes, Stops}
 use Rattle.plain_lines.specs.declared.kept_line.KeptLine.{KeptLine}
 use Rattle.plain_lines.specs.declared.state.FileState.{FileState}
 use Rattle.plain_lines.specs.declared.state.UnitState.{UnitState}
-use Rattle.scan_model.specs.Conditionals.{next_group}
+use Rattle.scan_model.specs.Conditionals.{next_group, on_chosen, opening_of}
 use Rattle.plain_lines.specs.declared.conditionals.NextGroup.TheVariants.{Asked}
 use Rattle.plain_lines.specs.States.{groups_of, core_of}
-use Rattle.plain_lines.specs.Conditions.{on_chosen, opening_of}
 use Rattle.plain_lines.specs.NextGroups.{finds}
 use Rattle.plain_lines.proofs.ConditionLemmas.{on_next, next_group-found}
 use Rattle.plain_lines.specs.Lines.{line_of}
-use Rattle.plain_lines.specs.Actions.{LineEffect, Does, Acts, IsSame}
+use Rattle.plain_lines.specs.Actions.{LineEffect, Does, Acts}
 
 module _ (at : KeptLine) where
   -- the effects are the same where they count: at this state of the file and the unit

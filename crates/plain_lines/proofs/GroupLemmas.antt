@@ -1,6 +1,5 @@
 -- Open conditionals, of which the innermost is last in the code.
-use Rattle.std.proofs.Common.{◌≡◌, ℕ, ◌+◌, ◌-◌, ◌<◌, zero, suc, Bool, true, false, List, [], ◌∷◌, ◌++◌, map, drop, length, get_or, refl, ap, sym, ◌∙◌, subst, arith}
-use Rattle.std.specs.Prelude.{reverse}
+use Rattle.std.proofs.Common.{◌≡◌, ℕ, ◌+◌, ◌-◌, ◌<◌, List, [], ◌∷◌, ◌++◌, map, drop, length, refl, ap, sym, ◌∙◌, arith}
 use Rattle.std.proofs.Math.ListN.{set}
 use Rattle.std.proofs.lemmas.List.{reverse-append}
 use Rattle.scan_model.specs.State.{Group}
@@ -15,10 +14,6 @@ split_last (x ∷ []) h = ([], (x, (refl, omega arith)))
 split_last (x ∷ y ∷ xs) h = let more = split_last (y ∷ xs) (omega arith) in
     (x ∷ more.0, (more.1.0, (ap (λ zs. x ∷ zs) more.1.1.0, omega (arith, more.1.1.1))))
 
-last_at : {A : Type 0} (ys : List A) (x d : A) → get_or (ys ++ x ∷ []) (length ys) d ≡ x
-last_at [] x d = refl
-last_at (y ∷ ys) x d = last_at ys x d
-
 set_last : {A : Type 0} (ys : List A) (x v : A) → set (ys ++ x ∷ []) (length ys) v ≡ ys ++ v ∷ []
 set_last [] x v = refl
 set_last (y ∷ ys) x v = ap (λ zs. y ∷ zs) (set_last ys x v)
@@ -27,14 +22,6 @@ set_last (y ∷ ys) x v = ap (λ zs. y ∷ zs) (set_last ys x v)
 
 pub groups_of-push : (gs : List OpenGroup) (g : OpenGroup) → groups_of (gs ++ g ∷ []) ≡ group_of g ∷ groups_of gs
 groups_of-push gs g = ap (map group_of) (reverse-append gs (g ∷ []))
-
-pub groups_of-last : (gs : List OpenGroup) (g : OpenGroup) → 0 < length gs → g ≡ get_or gs (length gs - 1) g → groups_of gs ≡ group_of g ∷ drop 1 (groups_of gs)
-groups_of-last gs g h is =
-    let s = split_last gs h in
-    let x = s.1.0 in
-    let here : g ≡ x = is ∙ ap (λ k. get_or gs k g) (sym s.1.1.1) ∙ ap (λ xs. get_or xs (length s.0) g) s.1.1.0 ∙ last_at s.0 x g in
-    let whole : groups_of gs ≡ group_of x ∷ groups_of s.0 = ap groups_of s.1.1.0 ∙ groups_of-push s.0 x in
-    whole ∙ ap (λ y. group_of y ∷ groups_of s.0) (sym here) ∙ ap (λ gs. group_of g ∷ drop 1 gs) (sym whole)
 
 set_groups : (gs : List OpenGroup) (new : OpenGroup) (g : Group) (rest : List Group) → groups_of gs ≡ g ∷ rest → groups_of (set gs (length gs - 1) new) ≡ group_of new ∷ rest
 set_groups [] new g rest e = cc

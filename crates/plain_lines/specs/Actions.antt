@@ -11,7 +11,7 @@ use Rattle.scan_model.specs.State.{Setup, Core}
 use Rattle.scan_model.specs.Stream.{ModuleLine}
 use Rattle.scan_model.specs.Effect.{Effect, Now, Sends, stop}
 use Rattle.scan_model.specs.Includes.{include_by}
-use Rattle.scan_model.specs.Conditionals.{is_skipped, with_has_values, on_value}
+use Rattle.scan_model.specs.Conditionals.{is_skipped, with_has_values, on_value, on_chosen, opening_of}
 use Rattle.plain_lines.specs.declared.action.Action.{Action}
 use Rattle.plain_lines.specs.declared.action.Action.TheVariants.{Goes, Skips, Sent, Refused, Stops, Includes, Tests}
 use Rattle.plain_lines.specs.declared.action.Condition.{Condition}
@@ -19,7 +19,7 @@ use Rattle.plain_lines.specs.declared.kept_line.KeptLine.{KeptLine}
 use Rattle.plain_lines.specs.declared.state.FileState.{FileState}
 use Rattle.plain_lines.specs.declared.state.UnitState.{UnitState}
 use Rattle.plain_lines.specs.States.{core_of}
-use Rattle.plain_lines.specs.Conditions.{on_chosen, opening_of, test_count}
+use Rattle.plain_lines.specs.Conditions.{test_count}
 use Rattle.plain_lines.specs.Lines.{line_of, BeginsGroup}
 
 -- an effect over any files

@@ -2,28 +2,12 @@
 use Rattle.std.specs.Prelude.{ℕ, ◌+◌, Bool, true, false, not, if◌then◌else◌, List, [], ◌∷◌, Option, Some, None, is_some}
 use Rattle.scan_model.specs.declared.token.Kind.TheVariants.{Ident}
 use Rattle.scan_model.specs.declared.token.Tok.{Tok}
-use Rattle.scan_model.specs.declared.token.Line.{Line}
 use Rattle.scan_model.specs.declared.macros.Def.{Def}
 use Rattle.scan_model.specs.TokenTests.{is_of}
 use Rattle.scan_model.specs.HeaderName.{Term, Plain, Has}
-use Rattle.scan_model.specs.State.{Group, Core}
-use Rattle.scan_model.specs.Effect.{Effect}
-use Rattle.scan_model.specs.Conditionals.{opened, with_group}
+use Rattle.scan_model.specs.State.{Group}
 
--- what the condition is of: an `#if`, or an `#elif` of the first group, before the others
-pub data Opening : Type 0 where
-  OfIf : Opening
-  OfElif : Group → List Group → Opening
-
-abbrev pub on_chosen : {X : Type 0} → Line → Opening → Bool → Core → Effect X
-on_chosen l OfIf = opened l
-on_chosen l (OfElif g gs) = λ yields. with_group (record g { live = yields; taken = yields }) gs
-
-abbrev pub opening_of : Bool → List Group → Opening
-opening_of true (g ∷ gs) = OfElif g gs
-opening_of is_elif gs = OfIf
-
--- the open conditionals after that
+-- the open conditionals after the condition of an `#if` or `#elif`
 abbrev pub chosen : ℕ → Bool → Bool → List Group → List Group
 chosen line true yields (g ∷ gs) = record g { live = yields; taken = yields } ∷ gs
 chosen line is_elif yields gs = record { line = line; live = yields; taken = yields; past_else = false } ∷ gs

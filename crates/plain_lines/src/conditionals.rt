@@ -1,9 +1,9 @@
 ghost use Rattle.std.specs.Prelude.{◌≡◌, IfOk, OnErr};
-ghost use Rattle.scan_model.specs.Conditionals.{with_defined, opened_skipped, next_group, else_line, endif_line};
+ghost use Rattle.scan_model.specs.Conditionals.{with_defined, opened_skipped, next_group, else_line, endif_line, on_chosen, opening_of};
 ghost use Rattle.macro_table.specs.Table.{macros_of};
 ghost use Rattle.plain_lines.specs.declared.state.UnitState.{UnitState};
 ghost use Rattle.plain_lines.specs.States.{groups_of};
-ghost use Rattle.plain_lines.specs.Conditions.{known_name, turned, on_chosen, opening_of};
+ghost use Rattle.plain_lines.specs.Conditions.{known_name, turned};
 ghost use Rattle.plain_lines.specs.NextGroups.{finds, passed};
 ghost use Rattle.plain_lines.specs.Lines.{IsThere, line_of, after_word};
 ghost use Rattle.plain_lines.specs.Actions.{Acts, IsSame};

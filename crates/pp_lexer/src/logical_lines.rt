@@ -1,6 +1,7 @@
 ghost use Rattle.std.specs.Prelude.{◌≡◌, ◌≤◌, ◌++◌, [], ◌∷◌, length, drop, IfOk, OnOk};
 ghost use Rattle.line_splice.specs.Cursor.{text_of, rest};
 ghost use Rattle.scan_model.specs.Lines.{lines, closed};
+ghost use Rattle.scan_model.specs.Limits.{file_limit};
 
 use crate::tokens::next_token;
 use line_splice::Cursor;
@@ -10,7 +11,7 @@ use std::alloc::Global;
 /// The logical lines of a text that have tokens ([lex.phases], [lex.pptoken]). `Err` is want of memory. A text has at
 /// most 32 MiB.
 pub fn lines(alloc: Global, text: &[u8]) -> Result<Items<Line>, NoMemory>
-    requires { length text.now ≤ 33554432 }
+    requires { length text.now ≤ file_limit }
     ensures { IfOk result (λ ls. ls ≡ lines text.now) }
 {
     let mut at = Cursor::new(text);

@@ -1,4 +1,5 @@
 ghost use Rattle.std.specs.Prelude.{◌≤◌, length};
+ghost use Rattle.scan_model.specs.Limits.{file_limit};
 
 use super::*;
 use line_splice::Cursor;
@@ -23,7 +24,7 @@ fn letter(kind: Kind) -> u8 {
 // The lines of the text, each as its two numbers and its tokens. A token is a space or `|` for none, its kind's letter
 // and its spelling.
 fn shown(alloc: Global, text: &[u8]) -> Result<Vec<u8>, Fail>
-    requires { length text.now ≤ 33554432 }
+    requires { length text.now ≤ file_limit }
 {
     let found = lines(alloc, text).ok().ok_or("memory")?;
     let mut out = Vec::new(alloc);
@@ -41,7 +42,7 @@ fn shown(alloc: Global, text: &[u8]) -> Result<Vec<u8>, Fail>
 }
 
 fn reads(rt: &impl Abort, alloc: Global, text: &[u8], want: &[u8]) -> Result<(), Fail>
-    requires { length text.now ≤ 33554432 }
+    requires { length text.now ≤ file_limit }
 {
     let found = shown(alloc, text)?;
     assert_eq!(rt; found.as_slice(), want);

@@ -2,6 +2,7 @@ ghost use Rattle.std.specs.Prelude.{◌≡◌, ◌≤◌, ◌-◌, ◌++◌, [],
 ghost use Rattle.std.specs.List.{filter};
 ghost use Rattle.line_splice.specs.Cursor.{text_of, rest};
 ghost use Rattle.scan_model.specs.Lines.{closed, is_directive, kept};
+ghost use Rattle.scan_model.specs.Limits.{file_limit};
 ghost use Rattle.pp_lexer.specs.Brackets.{IsBare};
 ghost use Rattle.reducer.specs.Building.{kept_lines, open_toks, IsSound, HasRoom, HasLines};
 ghost use Rattle.reducer.specs.Placed.{IsFurther};
@@ -134,7 +135,7 @@ fn reduce_line(text: &[u8], at: &mut Cursor<'_>, lines: &mut OpenLines) -> Resul
 /// Of the other lines no token is kept, and no more are read to be kept than the first few, where those must tell. No
 /// token has memory of its own.
 pub fn reduce(alloc: Global, text: &[u8]) -> Result<Reduced, NoMemory>
-    requires { length text.now ≤ 33554432 }
+    requires { length text.now ≤ file_limit }
     ensures { IfOk result (λ reduced. reduced ≡ kept text.now) }
 {
     let mut at = Cursor::new(text);

@@ -5,11 +5,12 @@
 #![tactic(auto)]
 
 ghost use Rattle.std.specs.Prelude.{◌≡◌, ◌≤◌, ◌↔◌, [], All, IfOk, IsTrue, string_len, vec_len};
+ghost use Rattle.scan_model.specs.Limits.{file_limit};
 ghost use Rattle.shard_cache.specs.StoreMap.{IsUntouched};
 
 use file_source::{DiskSource, OutSink, Source};
 use program_words::is_alone;
-use scan_model::NoMemory;
+use scan_model::{FILE_LIMIT, NoMemory};
 use scanner::{Outside, scan_alone, scan_deps};
 use shard_cache::Store;
 use std::process::ExitCode;
@@ -19,9 +20,6 @@ use std::{env, io};
 const USAGE: u8 = 2;
 
 const NO_MEMORY: u8 = 7;
-
-// The most bytes of one word.
-const WORD_LIMIT: usize = 33_554_432;
 
 // The words of the command line, or the status that says why there are none.
 fn read_words(rt: &HostRuntime) -> Result<Vec<String>, u8> {
@@ -46,9 +44,9 @@ fn status_of(kind: io::ErrorKind) -> u8 {
 }
 
 fn are_short(words: &[String]) -> bool
-    ensures { IsTrue result ↔ All (λ word. string_len word ≤ 33554432) words.now }
+    ensures { IsTrue result ↔ All (λ word. string_len word ≤ file_limit) words.now }
 {
-    words.iter().all(|word| word.len() <= WORD_LIMIT)
+    words.iter().all(|word| word.len() <= FILE_LIMIT)
 }
 
 // A source for each shard of the store.

@@ -78,10 +78,6 @@ next_takes text before s l e =
 
 -- ## Steps of lines_from
 
-next_none : (text : List ℕ) (before : List Tok) → next_token text before [] ≡ None
-unfolding next_token after_blanks
-next_none text before = refl
-
 -- the end, in however many steps
 lines_end : (n : ℕ) (text : List ℕ) (before : List Tok) → lines_up_to n text before [] ≡ closed before (line_at text [])
 unfolding next_token after_blanks

@@ -1,7 +1,7 @@
 -- The longest front that passes, and tests on the words of a list.
-use Rattle.std.proofs.Common.{◌≡◌, ℕ, zero, suc, ◌+◌, ◌<◌, ◌≤◌, Bool, true, false, cond, ◌&&◌, List, [], ◌∷◌, refl, ap, sym, ◌∙◌, inl, inr, take, length, arith, codes, nat_eq}
+use Rattle.std.proofs.Common.{◌≡◌, ℕ, zero, suc, ◌+◌, ◌<◌, ◌≤◌, Bool, true, false, ◌&&◌, List, [], ◌∷◌, refl, ap, sym, ◌∙◌, inl, inr, take, length, arith, codes, nat_eq}
 use Rattle.std.proofs.lemmas.Bool.{or_cases, and_parts, cases_eq, eqb-true, cond_both}
-use Rattle.std.specs.List.{list_all, prefix_len}
+use Rattle.std.specs.List.{list_all}
 use lib.Pointwise.{pointwise}
 use Prim.Native.String.{String}
 use Rattle.scan_model.specs.Spelling.{longest_up_to, longest, is_one_of, spells}
@@ -17,22 +17,6 @@ up_to p s (suc n) k h some none = elim (cases_eq k (suc n)) [
 pub longest_is : (p : List ℕ → Bool) (s : List ℕ) (k : ℕ) → k ≤ length s → (0 < k → p (take k s) ≡ true) → ((m : ℕ) → k < m → m ≤ length s → p (take m s) ≡ false) → longest p s ≡ k
 unfolding longest
 longest_is p s k h some none = up_to p s (length s) k h some none
-
-pub list_all-take_true : (p : ℕ → Bool) (xs : List ℕ) (m : ℕ) → m ≤ prefix_len p xs → list_all p (take m xs) ≡ true
-list_all-take_true p xs zero h = refl
-list_all-take_true p [] (suc m) h = refl
-list_all-take_true p (x ∷ xs) (suc m) h = elim (p x) as (λ b. suc m ≤ cond b (1 + prefix_len p xs) 0 → (b && list_all p (take m xs)) ≡ true) [
-  | true ↦ λ k. list_all-take_true p xs m (omega arith)
-  | false ↦ λ k. absurd (omega arith)
-] h
-
-pub list_all-take_false : (p : ℕ → Bool) (xs : List ℕ) (m : ℕ) → prefix_len p xs < m → m ≤ length xs → list_all p (take m xs) ≡ false
-list_all-take_false p xs zero h le = absurd (omega arith)
-list_all-take_false p [] (suc m) h le = absurd (omega arith)
-list_all-take_false p (x ∷ xs) (suc m) h le = elim (p x) as (λ b. cond b (1 + prefix_len p xs) 0 < suc m → (b && list_all p (take m xs)) ≡ false) [
-  | true ↦ λ k. list_all-take_false p xs m (omega arith) (omega arith)
-  | false ↦ λ k. refl
-] h
 
 pub pointwise_same : (xs ys : List ℕ) → pointwise nat_eq xs ys ≡ true → xs ≡ ys
 pointwise_same [] [] h = refl
@@ -55,7 +39,7 @@ one_of_passes p (word ∷ words) all s h =
     ]
 
 -- what the longest front is
-up_to_le : (p : List ℕ → Bool) (s : List ℕ) (n : ℕ) → longest_up_to p s n ≤ n
+pub up_to_le : (p : List ℕ → Bool) (s : List ℕ) (n : ℕ) → longest_up_to p s n ≤ n
 up_to_le p s zero = omega arith
 up_to_le p s (suc n) = let k = up_to_le p s n in cond_both (p (take (suc n) s)) (suc n) (longest_up_to p s n) (λ j. j ≤ suc n) (λ e. omega arith) (λ e. omega arith)
 

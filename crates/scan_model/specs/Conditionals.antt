@@ -76,6 +76,20 @@ opened_skipped l c = Now (record c { stack = record { line = l.line; live = fals
 abbrev pub with_group : {X : Type 0} → Group → List Group → Core → Effect X
 with_group g gs c = Now (record c { stack = g ∷ gs })
 
+-- what a condition is of: an `#if`, or an `#elif` of the first group, before the others
+pub data Opening : Type 0 where
+  OfIf : Opening
+  OfElif : Group → List Group → Opening
+
+abbrev pub opening_of : Bool → List Group → Opening
+opening_of true (g ∷ gs) = OfElif g gs
+opening_of is_elif gs = OfIf
+
+-- what the condition's value does
+abbrev pub on_chosen : {X : Type 0} → Line → Opening → Bool → Core → Effect X
+on_chosen l OfIf = opened l
+on_chosen l (OfElif g gs) = λ yields. with_group (record g { live = yields; taken = yields }) gs
+
 -- the next group of a conditional, whose condition is asked only where no group was taken
 abbrev pub next_group : {X : Type 0} → Core → Line → ((Bool → Core → Effect X) → Effect X) → List Group → Effect X
 next_group c l condition [] = stop FaultIs.Unbalanced c l

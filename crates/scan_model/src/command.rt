@@ -1,3 +1,6 @@
+ghost use Rattle.std.specs.Prelude.{◌≡◌};
+ghost use Rattle.scan_model.specs.HeaderName.{form_of};
+
 use crate::{Items, PathText, Text};
 
 /// How a header is looked for ([cpp.include]).
@@ -9,6 +12,19 @@ pub enum Form {
     Angled,
     /// As `#include_next` does: in the folders of the chain from this number on, whichever form is written.
     Next(u32),
+}
+
+impl Form {
+    /// The form of a header's name in its own marks ([lex.header]).
+    pub fn of(text: &[u8]) -> Form
+        ensures { result ≡ form_of text.now }
+    {
+        if !text.is_empty() && text[0] == b'<' {
+            Form::Angled
+        } else {
+            Form::Quoted
+        }
+    }
 }
 
 /// The edition of the language that a command asks for, as far as a scan depends on it.

@@ -37,6 +37,7 @@ pub use path_text::PathText;
 pub use skip::Skip;
 pub use text::Text;
 pub use token::{Kind, Line, Tok};
+pub use token_tests::has_opt;
 pub use unit_end::{Fault, FaultKind, Place, Provided, Record, UnitEnd};
 
 #[cfg(test)]

@@ -1,4 +1,4 @@
-use crate::{Bytes, Items, Kind, PathText, Text, Tok};
+use crate::{Bytes, Form, Items, Kind, PathText, Text, Tok, has_opt};
 use std::test::Fail;
 
 #[test]
@@ -28,10 +28,10 @@ fn lists_hold_what_they_are_given(rt: HostRuntime) -> Result<(), Fail> {
 struct Row {
     kind: Kind,
     text: &'static [u8],
-    passes: [bool; 9],
+    passes: [bool; 12],
 }
 
-fn answers(tok: &Tok) -> [bool; 9] {
+fn answers(tok: &Tok) -> [bool; 12] {
     [
         tok.is_ident(),
         tok.is_named(b"name"),
@@ -42,6 +42,9 @@ fn answers(tok: &Tok) -> [bool; 9] {
         tok.is_open_paren(),
         tok.is_close_paren(),
         tok.is_plain_string(),
+        tok.is_header(),
+        tok.is_less(),
+        tok.is_greater(),
     ]
 }
 
@@ -51,18 +54,21 @@ macro_rules! rows {
     };
 }
 
-const ROWS: [Row; 11] = rows![
-    Ident b"name" => true true false false false false false false false,
-    Ident b"__VA_OPT__" => true false true false false false false false false,
-    Stray b"name" => false false false false false false false false false,
-    Punct b"%:" => false false false true false false false false false,
-    Punct b"##" => false false false false true false false false false,
-    Punct b"," => false false false false false true false false false,
-    Punct b"(" => false false false false false false true false false,
-    Punct b")" => false false false false false false false true false,
-    Str b"\"a\"" => false false false false false false false false true,
-    Str b"L\"a\"" => false false false false false false false false false,
-    Str b"\"a\"_s" => false false false false false false false false false,
+const ROWS: [Row; 14] = rows![
+    Ident b"name" => true true false false false false false false false false false false,
+    Ident b"__VA_OPT__" => true false true false false false false false false false false false,
+    Stray b"name" => false false false false false false false false false false false false,
+    Punct b"%:" => false false false true false false false false false false false false,
+    Punct b"##" => false false false false true false false false false false false false,
+    Punct b"," => false false false false false true false false false false false false,
+    Punct b"(" => false false false false false false true false false false false false,
+    Punct b")" => false false false false false false false true false false false false,
+    Str b"\"a\"" => false false false false false false false false true false false false,
+    Str b"L\"a\"" => false false false false false false false false false false false false,
+    Str b"\"a\"_s" => false false false false false false false false false false false false,
+    Header b"<a>" => false false false false false false false false false true false false,
+    Punct b"<" => false false false false false false false false false false true false,
+    Punct b">" => false false false false false false false false false false false true,
 ];
 
 #[test]
@@ -79,5 +85,29 @@ fn tokens_are_what_they_are_spelled(rt: HostRuntime) -> Result<(), Fail> {
         assert_eq!(rt; answers(&copy).as_slice(), row.passes.as_slice());
         assert!(rt; copy.space && copy.line == 7);
     }
+    Ok(())
+}
+
+#[test]
+fn parentheses_are_counted(rt: HostRuntime) -> Result<(), Fail> {
+    let alloc = rt.alloc();
+    let rows = [
+        (b"(".as_slice(), 0, 1),
+        (b")", 2, 1),
+        (b")", 0, 0),
+        (b",", 1, 1),
+    ];
+    for (text, before, after) in rows {
+        let tok = Tok {
+            kind: Kind::Punct,
+            text: Bytes::copy(alloc, text)?,
+            space: false,
+            line: 1,
+        };
+        assert_eq!(rt; tok.depth_after(before), after);
+        assert!(rt; !has_opt(&[tok]));
+    }
+    assert!(rt; matches!(Form::of(b"<a>"), Form::Angled));
+    assert!(rt; matches!(Form::of(b"\"a\""), Form::Quoted));
     Ok(())
 }

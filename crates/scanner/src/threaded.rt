@@ -1,4 +1,5 @@
 ghost use Rattle.std.specs.Prelude.{◌≡◌, ◌<◌, ◌≤◌, ◌-◌, ◌^◌, [], Some, All, IfSome, option_map, string_len};
+ghost use Rattle.scan_model.specs.Limits.{file_limit};
 ghost use Rattle.file_source.specs.Givens.{IsGiven};
 ghost use Rattle.program_words.specs.Words.{texts_of, words_of};
 ghost use Rattle.shard_cache.specs.Rows.{all_rows, all_asked, all_origins};
@@ -41,7 +42,7 @@ pub fn scan_deps<Q: Threads + Wait + Sync, S: Source, K: Sink, E: Sink>(
     requires fresh_store { IsUntouched outside.store }
     requires out_count { K.faults out.old < 2 ^ 64 - 1 }
     requires err_count { E.faults err.old < 2 ^ 64 - 1 }
-    requires short_words { All (λ word. string_len word ≤ 33554432) words.now.items }
+    requires short_words { All (λ word. string_len word ≤ file_limit) words.now.items }
 
     // The run does what its verdict says, or finds no memory.
     ensures run { IsRun S.given_outcome S.given_bytes

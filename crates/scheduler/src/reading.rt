@@ -2,6 +2,7 @@ ghost use Rattle.std.specs.Prelude.{◌≡◌, ◌≤◌, length, is_some, IfOk}
 ghost use Rattle.std.specs.Option.{ForSome};
 ghost use Rattle.std.specs.Arc.{arc_value};
 ghost use Rattle.scan_model.specs.Lines.{kept};
+ghost use Rattle.scan_model.specs.Limits.{file_limit};
 ghost use Rattle.shard_cache.specs.Rows.{stands_for};
 ghost use Rattle.scheduler.specs.Reading.{TellsOf, lines_of};
 
@@ -18,7 +19,7 @@ pub(crate) fn reading(
     outcome: Outcome,
     bytes: &[u8],
 ) -> (Told, Option<Arc<Reduced, Global>>)
-    requires { length bytes.now ≤ 33554432 }
+    requires { length bytes.now ≤ file_limit }
     ensures told { result.0 ≡ stands_for (is_some result.1) outcome bytes.now }
     ensures own { ForSome result.1 (λ lines. (outcome ≡ Outcome.Present) × (arc_value lines ≡ kept bytes.now)) }
 {
@@ -30,7 +31,7 @@ pub(crate) fn reading(
 }
 
 fn answer_to(alloc: Global, outcome: Outcome, bytes: &[u8]) -> Answer
-    requires { length bytes.now ≤ 33554432 }
+    requires { length bytes.now ≤ file_limit }
     ensures { TellsOf outcome bytes.now result }
 {
     match outcome {
@@ -46,7 +47,7 @@ fn answer_to(alloc: Global, outcome: Outcome, bytes: &[u8]) -> Answer
 }
 
 fn kept_lines(alloc: Global, bytes: &[u8]) -> Result<Arc<Reduced, Global>, NoMemory>
-    requires { length bytes.now ≤ 33554432 }
+    requires { length bytes.now ≤ file_limit }
     ensures { IfOk result (λ lines. arc_value lines ≡ kept bytes.now) }
 {
     let lines = reduce(alloc, bytes)?;

@@ -3,6 +3,7 @@ ghost use Rattle.std.specs.Prelude.{◌≡◌, ◌≤◌, length, IfSome};
 ghost use Rattle.std.specs.Arc.{arc_value};
 ghost use Rattle.scan_model.specs.declared.Outcome.TheVariants as OutcomeIs;
 ghost use Rattle.scan_model.specs.Lines.{kept};
+ghost use Rattle.scan_model.specs.Limits.{file_limit};
 ghost use Rattle.shard_cache.specs.Rows.{IsRow};
 ghost use Rattle.cache_desk.specs.Desk.{AnswersRow};
 
@@ -48,7 +49,7 @@ impl<S: Source> Claim<S> {
 
 // The lines of a text for two owners, where there is memory.
 fn lines_for_two(alloc: Global, text: &[u8]) -> Option<(Arc<Reduced, Global>, Arc<Reduced, Global>)>
-    requires { length text.now ≤ 33554432 }
+    requires { length text.now ≤ file_limit }
     ensures { IfSome result (λ both. (arc_value both.0 ≡ kept text.now) × (arc_value both.1 ≡ kept text.now)) }
 {
     let Ok(reduced) = reduce(alloc, text) else {

@@ -43,9 +43,9 @@ pub record Joining (old sets : Sets) (items done : List Item) (left : Item) (res
   pub rest_known : AreItems sets rest
   pub whole : option_map (items_of sets done ++◌) (spec.joined_onto (item_of sets left) (items_of sets rest)) ≡ spec.joined (items_of old items)
 
-map-none : (o : Option (List spec.Item)) → option_map ([] ++◌) o ≡ o
-map-none None = refl
-map-none (Some x) = refl
+pub append-none : (o : Option (List spec.Item)) → option_map ([] ++◌) o ≡ o
+append-none None = refl
+append-none (Some x) = refl
 
 map-push : (done : List spec.Item) (x : spec.Item) (o : Option (List spec.Item)) → option_map ((done ++ x ∷ []) ++◌) o ≡ option_map (done ++◌) (option_map (x ∷◌) o)
 map-push done x None = refl
@@ -59,7 +59,7 @@ joining-start sets items done first rest h e d =
       done_known = subst (AreItems sets) (sym d) (AreItems-nil sets);
       left_known = AreItems-first sets first rest all;
       rest_known = AreItems-rest sets first rest all;
-      whole = ap (λ (s : List Item). option_map (items_of sets s ++◌) (spec.joined_onto (item_of sets first) (items_of sets rest))) d ∙ map-none (spec.joined_onto (item_of sets first) (items_of sets rest)) ∙ ap (λ (s : List Item). spec.joined (items_of sets s)) (sym e);
+      whole = ap (λ (s : List Item). option_map (items_of sets s ++◌) (spec.joined_onto (item_of sets first) (items_of sets rest))) d ∙ append-none (spec.joined_onto (item_of sets first) (items_of sets rest)) ∙ ap (λ (s : List Item). spec.joined (items_of sets s)) (sym e);
     }
 
 -- an item that isn't a `##` comes next

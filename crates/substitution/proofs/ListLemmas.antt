@@ -22,7 +22,7 @@ use Rattle.substitution.specs.Meaning.{arg_of, IsArg, item_of, items_of, IsItem,
 use Rattle.substitution.specs.Calls.{call_by, call_of, AreArgs, Adds, AddsPart, AddsString, GivesPart, opt_after_hash, opt_comes, after_word, opt_result}
 use Rattle.substitution.proofs.MeaningLemmas.{all_marked_of-Extends, AreMarked-Extends, items_of-Extends, AreItems-Extends}
 use Rattle.substitution.specs.declared.item.Item.TheVariants.{Placemarker}
-use Rattle.substitution.proofs.JoinLemmas.{AreItems-nil, AreItems-push}
+use Rattle.substitution.proofs.JoinLemmas.{AreItems-nil, AreItems-push, append-none}
 use Rattle.substitution.proofs.PartLemmas.{Inner, by_tests, gives-string-by, gives-no_string}
 
 -- ## Calls in tables that grow
@@ -73,10 +73,6 @@ pub record Walking (old sets : Sets) (c : Call) (list : List Tok) (items : List 
   pub known : AreItems sets items
   pub shorter : length rest ≤ length list
   pub whole : (n : ℕ) → length list ≤ n → (m : ℕ) × (length rest ≤ m) × (option_map (items_of sets items ++◌) (spec.items_up_to m (call_of old c) pasted rest) ≡ spec.items_up_to n (call_of old c) false list)
-
-append-none : (o : Option (List spec.Item)) → option_map ([] ++◌) o ≡ o
-append-none None = refl
-append-none (Some x) = refl
 
 append-both : (x y : List spec.Item) (o : Option (List spec.Item)) → option_map ((x ++ y) ++◌) o ≡ option_map (x ++◌) (option_map (y ++◌) o)
 append-both x y None = refl

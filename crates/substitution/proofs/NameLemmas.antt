@@ -77,8 +77,3 @@ operand-noted q had has last body i t h e noted k =
     ∙ ap (λ (b : Bool). b || later) noted
     ∙ in-turn had here later
     ∙ ap (λ (b : Bool). had || b) (ap (stands_as_operand q last) (sym d)) ∙ k
-
--- nothing is left
-pub found-all : (had : Bool) → (had || false) ≡ had
-found-all true = refl
-found-all false = refl

@@ -2,7 +2,7 @@
 use Rattle.std.proofs.Common.{◌≡◌, sym, ◌∙◌, ap, refl, ℕ, suc, ◌+◌, ◌<◌, ◌≤◌, Bool, true, false, if◌then◌else◌, List, [], ◌∷◌, length, drop, get_or, Some, None, arith}
 use Rattle.std.specs.Prelude.{Option}
 use Rattle.std.specs.Option.{option_map}
-use Rattle.std.proofs.lemmas.List.{drop_all, drop_more}
+use Rattle.std.proofs.lemmas.List.{drop_more}
 use Rattle.scan_model.specs.TokenTests.{same}
 use Rattle.substitution.specs.Places.{place_of}
 
@@ -20,6 +20,3 @@ pub place-step : (names : List (List ℕ)) (i : ℕ) (p name : List ℕ) → i <
 place-step names i p name h e =
     let d : drop i names ≡ p ∷ drop (i + 1) names = drop_more names i [] h ∙ ap (λ (s : List ℕ). s ∷ drop (i + 1) names) (sym e) in
     ap (λ (ps : List (List ℕ)). shifted i (place_of ps name)) d ∙ shifted-if i (same p name) (place_of (drop (i + 1) names) name)
-
-pub place-end : (names : List (List ℕ)) (i : ℕ) (name : List ℕ) → length names ≤ i → shifted i (place_of (drop i names) name) ≡ None
-place-end names i name h = ap (λ (ps : List (List ℕ)). shifted i (place_of ps name)) (drop_all i names h)

@@ -2,6 +2,7 @@
 use Rattle.std.proofs.Common.{◌≡◌, ◌∙◌, ap, subst, refl, ℕ, zero, suc, Bool, true, false, not, ◌&&◌, ◌||◌, ◌==◌, if◌then◌else◌, List, [], ◌∷◌, ◌++◌, length, Option, Some, None, IfSome, is_some, option_map, option_and_then}
 use Rattle.std.specs.Option.{option_map_or}
 use Rattle.std.proofs.lemmas.Slice.Eq.{bytes_eq-Decides}
+use Rattle.std.proofs.lemmas.Bool.{or_left, or_right, and_from}
 use Rattle.scan_model.specs.declared.token.Kind.TheVariants.{Ident}
 use Rattle.scan_model.specs.declared.token.Tok.{Tok}
 use Rattle.scan_model.specs.TokenTests.{is_of, same, is_named, is_hash, is_paste, is_comma, is_open_paren, is_close_paren, begins_with}
@@ -14,25 +15,13 @@ use Rattle.substitution.specs.Written.{is_operand, stands_as_operand, IsAlike, A
 
 -- ## Tests
 
-or-left : (a b : Bool) → a ≡ true → (a || b) ≡ true
-or-left true b h = refl
-or-left false b h = absurd cc
-
-or-right : (a b : Bool) → b ≡ true → (a || b) ≡ true
-or-right true b h = refl
-or-right false b h = h
-
 either-holds : (a a' b b' : Bool) → (a ≡ true → a' ≡ true) → (b ≡ true → b' ≡ true) → (a || b) ≡ true → (a' || b') ≡ true
-either-holds true a' b b' f g h = or-left a' b' (f refl)
-either-holds false a' b b' f g h = or-right a' b' (g h)
+either-holds true a' b b' f g h = or_left a' b' (f refl)
+either-holds false a' b b' f g h = or_right a' b' (g h)
 
 both-hold : (a b b' : Bool) → (b ≡ true → b' ≡ true) → (a && b) ≡ true → (a && b') ≡ true
 both-hold true b b' f h = f h
 both-hold false b b' f h = h
-
-and-true : (a b : Bool) → a ≡ true → b ≡ true → (a && b) ≡ true
-and-true true b h k = k
-and-true false b h k = h
 
 and-first : (a b : Bool) → (a && b) ≡ true → a ≡ true
 and-first true b h = refl
@@ -48,11 +37,11 @@ operand-behind : (name : List ℕ) (last ts : List Tok) → stands_as_operand na
 operand-behind name last [] h = h
 operand-behind name last (t ∷ ts) h =
     either-holds (is_named name t && is_operand [] ts) (is_named name t && is_operand last ts) _ _
-    (both-hold (is_named name t) (is_operand [] ts) (is_operand last ts) (λ k. or-right (begins_with is_hash last) _ (or-right (begins_with is_paste last) _ k))) (λ k. k) h
+    (both-hold (is_named name t) (is_operand [] ts) (is_operand last ts) (λ k. or_right (begins_with is_hash last) _ (or_right (begins_with is_paste last) _ k))) (λ k. k) h
 
 operand-after : (name : List ℕ) (last xs ts : List Tok) → stands_as_operand name [] ts ≡ true → stands_as_operand name last (xs ++ ts) ≡ true
 operand-after name last [] ts h = operand-behind name last ts h
-operand-after name last (x ∷ xs) ts h = or-right (is_named name x && is_operand last (xs ++ ts)) _ (operand-after name (x ∷ []) xs ts h)
+operand-after name last (x ∷ xs) ts h = or_right (is_named name x && is_operand last (xs ++ ts)) _ (operand-after name (x ∷ []) xs ts h)
 
 paste-before : (xs ys : List Tok) → begins_with is_paste xs ≡ true → begins_with is_paste (xs ++ ys) ≡ true
 paste-before [] ys h = absurd cc
@@ -70,7 +59,7 @@ operand-before name last (x ∷ xs) ys h =
 operand-here : (last : List Tok) (t : Tok) (ts : List Tok) → is_of Ident t ≡ true → is_operand last ts ≡ true → stands_as_operand t.text last (t ∷ ts) ≡ true
 operand-here last t ts h k =
     let itself : same t.text t.text ≡ true = (bytes_eq-Decides t.text t.text).1 refl in
-    or-left (is_named t.text t && is_operand last ts) _ (and-true (is_named t.text t) (is_operand last ts) (and-true (is_of Ident t) (same t.text t.text) h itself) k)
+    or_left (is_named t.text t && is_operand last ts) _ (and_from (is_named t.text t) (is_operand last ts) (and_from (is_of Ident t) (same t.text t.text) h itself) k)
 
 -- ## Lists each of whose operands is taken
 
@@ -81,7 +70,7 @@ covers-nothing : (taken : List ℕ → Bool) → Covers taken [] []
 covers-nothing taken = λ name h. absurd cc
 
 covers-rest : (taken : List ℕ → Bool) (last : List Tok) (t : Tok) (ts : List Tok) → Covers taken last (t ∷ ts) → Covers taken (t ∷ []) ts
-covers-rest taken last t ts c = λ name h. c name (or-right (is_named name t && is_operand last ts) _ h)
+covers-rest taken last t ts c = λ name h. c name (or_right (is_named name t && is_operand last ts) _ h)
 
 abbrev IsIn : List Tok → Enclosed Tok → Type 0
 IsIn ts e = ts ≡ e.inside ++ e.close ∷ e.after
@@ -112,7 +101,7 @@ covers-enclosed taken last t ts e c h =
     let whole : (name : List ℕ) → stands_as_operand name last (t ∷ (e.inside ++ e.close ∷ e.after)) ≡ true → taken name ≡ true =
     subst (λ (s : List Tok). Covers taken last (t ∷ s)) h c in (
       λ name k. whole name (operand-after name last (t ∷ []) (e.inside ++ e.close ∷ e.after) (operand-before name [] e.inside (e.close ∷ e.after) k)),
-      λ name k. whole name (operand-after name last (t ∷ e.inside) (e.close ∷ e.after) (or-right (is_named name e.close && is_operand [] e.after) _ (operand-behind name (e.close ∷ []) e.after k))),
+      λ name k. whole name (operand-after name last (t ∷ e.inside) (e.close ∷ e.after) (or_right (is_named name e.close && is_operand [] e.after) _ (operand-behind name (e.close ∷ []) e.after k))),
     )
 
 covers-parens : (taken : List ℕ → Bool) (last ts : List Tok) → Covers taken last ts → IfSome (in_parens (λ t. t) ts) (CoversEnclosed taken)
@@ -250,7 +239,7 @@ module _ (variadic : Option (List ℕ)) (line : ℕ) (g g' : List ℕ → Option
     hash-same : (t : Tok) (ts : List Tok) → is_hash t ≡ true → Covers taken (t ∷ []) ts → AreSame taken (spec.hash_part one inner t ts) (spec.hash_part other inner' t ts)
     hash-same t [] h c = record { same = refl; follows = follows-part taken [] _ [] (covers-nothing taken) }
     hash-same t (u ∷ after) h c =
-        let same_arg : spec.arg_at one u ≡ spec.arg_at other u = at-same (t ∷ []) u after c (or-left (is_hash t) _ h) in
+        let same_arg : spec.arg_at one u ≡ spec.arg_at other u = at-same (t ∷ []) u after c (or_left (is_hash t) _ h) in
         subst (λ (o : Option Arg). AreSame taken (by_argument one inner t u after (spec.arg_at one u)) (by_argument other inner' t u after o)) same_arg
         (by_argument-same t u after (spec.arg_at one u) c)
 
@@ -270,7 +259,7 @@ module _ (variadic : Option (List ℕ)) (line : ℕ) (g g' : List ℕ → Option
         (λ h.
         let named : is_of Ident v ≡ true = variable-named variadic v (and-second (is_comma t && is_paste p) (spec.is_variable one v) h) in
         let paste : is_paste p ≡ true = and-second (is_comma t) (is_paste p) (and-first (is_comma t && is_paste p) (spec.is_variable one v) h) in
-        let operand : is_operand (p ∷ []) after ≡ true = or-right (is_hash p) _ (or-left (is_paste p) _ paste) in
+        let operand : is_operand (p ∷ []) after ≡ true = or_right (is_hash p) _ (or_left (is_paste p) _ paste) in
         record {
           same = ap (option_map (λ a. spec.part (items a) after)) (alike-same (taken v.text) (g v.text) (g' v.text) (alike v.text) (λ k. pasted v.text (operand-here (p ∷ []) v after named operand)));
           follows = follows-map taken (v ∷ []) items after (g v.text) rest;
@@ -293,7 +282,7 @@ module _ (variadic : Option (List ℕ)) (line : ℕ) (g g' : List ℕ → Option
     plain-same pasted last t after p c = record {
       same = ap Some (plain-part pasted t after (spec.arg_at one t) (spec.arg_at other t) (at-alike t)
           (λ h n. c t.text (operand-here last t after (some-tested (is_of Ident t) (g t.text) h)
-          (or-right (begins_with is_hash last) _ (either-holds pasted (begins_with is_paste last) _ _ p (λ k. k) n)))));
+          (or_right (begins_with is_hash last) _ (either-holds pasted (begins_with is_paste last) _ _ p (λ k. k) n)))));
       follows = plain-follows pasted t after (spec.arg_at one t) (covers-rest taken last t after c);
     }
 

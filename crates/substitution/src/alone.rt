@@ -1,13 +1,11 @@
 ghost use Rattle.std.specs.Prelude.{◌≡◌, ℕ, not, ◌&&◌, ◌||◌, List, [], IfOk};
-ghost use Rattle.std.specs.List.{list_any};
 ghost use Rattle.scan_model.specs.TokenTests.{is_hash, is_paste, is_comma, begins_with};
-ghost use Rattle.scan_model.specs.MacroDefinition.{is_opt};
 ghost use Rattle.scan_model.specs.Substitution.{is_variable_part, stands_alone, is_replaced};
 ghost use Rattle.substitution.specs.Places.{has_name};
 
 use crate::fronts::{begins_with_comma, begins_with_hash, begins_with_paste};
 use crate::names::add_name;
-use scan_model::{FunctionDef, NoMemory, Tok};
+use scan_model::{FunctionDef, NoMemory, Tok, has_opt};
 use std::alloc::Global;
 use std::collections::HashSet;
 
@@ -76,10 +74,4 @@ fn is_alone(variable: bool, before: &[Tok], last: &[Tok], after: &[Tok]) -> bool
     !begins_with_hash(last)
         && (!begins_with_paste(last) || (variable && begins_with_comma(before)))
         && !begins_with_paste(after)
-}
-
-pub(crate) fn has_opt(body: &[Tok]) -> bool
-    ensures { result ≡ list_any is_opt body.now }
-{
-    body.iter().any(|tok| tok.is_opt())
 }

@@ -1,13 +1,13 @@
-ghost use Rattle.std.specs.Prelude.{◌≡◌, ℕ, List, [], IfOk};
+ghost use Rattle.std.specs.Prelude.{◌≡◌, ℕ, List, IfOk};
 ghost use Rattle.scan_model.specs.MacroDefinition.{all_params};
 ghost use Rattle.scan_model.specs.Substitution.{is_replaced};
 ghost use Rattle.substitution.specs.Places.{place_in, place_of, IsIndex};
 ghost use Rattle.substitution.specs.Written.{is_taken_as_written};
 
-use crate::alone::{has_opt, is_variable_part, names_alone};
+use crate::alone::{is_variable_part, names_alone};
 use crate::params::{parameter, parameter_count};
 use crate::written::names_of_operands;
-use scan_model::{FunctionDef, NoMemory};
+use scan_model::{FunctionDef, NoMemory, has_opt};
 use std::alloc::Global;
 use std::collections::{HashMap, HashSet};
 

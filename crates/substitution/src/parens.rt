@@ -1,4 +1,4 @@
-ghost use Rattle.std.specs.Prelude.{◌≡◌, ◌<◌, ◌≤◌, ◌+◌, ◌^◌, Some, None, length, MatchOption};
+ghost use Rattle.std.specs.Prelude.{◌≡◌, None, MatchOption};
 ghost use Rattle.substitution.specs.Parens.{IsEnclosed};
 ghost use Rattle.scan_model.specs.Parentheses as spec;
 
@@ -33,21 +33,7 @@ fn enclosed(toks: &[Tok]) -> Option<Parens<'_>>
                 after: &toks[i + 1..],
             });
         }
-        depth = depth_after(&toks[i], depth);
+        depth = toks[i].depth_after(depth);
     }
     None
-}
-
-/// How many parentheses are open after the token.
-fn depth_after(tok: &Tok, depth: usize) -> usize
-    requires { depth + 1 < 2 ^ 64 }
-    ensures { result ≡ spec.depth_after tok.now depth }
-{
-    if tok.is_open_paren() {
-        depth + 1
-    } else if tok.is_close_paren() {
-        depth.saturating_sub(1)
-    } else {
-        depth
-    }
 }

@@ -18,7 +18,7 @@ use Rattle.unit_steps.specs.Logs.{path_at}
 use Rattle.unit_steps.specs.Searches.{Search, Included, on_present}
 use Rattle.unit_steps.specs.Stands.{Acts, StandsAtEnd, AreAbsent}
 use Rattle.unit_steps.proofs.Logs.{path_of_last}
-use Rattle.unit_steps.proofs.Answers.{absent_goes_on, search_over, first_missing, failed_ends, big_ends, no_memory_ends, once_passed}
+use Rattle.unit_steps.proofs.Answers.{absent_goes_on, search_over, first_missing, failed_ends, big_ends, no_memory_ends}
 use Rattle.unit_steps.proofs.Places.{absent_next, candidate_absent, candidate_there, few_candidates, few_folders, include_enters_at}
 use Rattle.unit_scan.specs.declared.parts.Answered.{Answered}
 use Rattle.unit_scan.specs.declared.parts.Run.{Run}
@@ -114,9 +114,6 @@ can_blame setup run (ByName n purpose) before path content h = tt
 -- ## The answers that end the unit
 
 module _ (setup : Setup) (run : Run) (lookup : Lookup) (before : List (List ℕ × Given)) (path : List ℕ) where
-  abbrev At : FaultKind → Type 0
-  At kind = StandsAtEnd setup (stopped kind (blamed setup run (blame_of lookup))) (told run)
-
   pub failed_faulty : Told setup run lookup before path Failed → IsFaulty setup run lookup FaultIs.ReadFault
   failed_faulty h = record {
     sound = h.sound;
@@ -228,16 +225,6 @@ first_present setup run first before path text h = record {
 }
 
 module _ (setup : Setup) (run : Run) (n : Name) (before : List (List ℕ × Given)) (path : List ℕ) (text : List Line) (h : Told setup run (ByName n PurposeIs.Included) before path (Present text)) where
-  pub once_present : (moment_of setup run None).once path ≡ true → Follows setup run 5 run StageIs.Runs
-  once_present once = record {
-    holds = record {
-      sound = h.sound;
-      stands = once_passed setup (moment_of setup run None) (told run) (place_searched setup (named n) n.from) (search_now setup run (ByName n PurposeIs.Included)).place path text h.acts once;
-    };
-    less = order_falls setup run 2 5 (omega arith);
-    proceeds = tt;
-  }
-
   pub include_present : (moment_of setup run None).once path ≡ false → Entering setup run (BlameIs.Here n.line) (place setup.command.search n.form n.text n.next)
   include_present once =
       let m = moment_of setup run None in

@@ -45,9 +45,6 @@ module _ (setup : Setup) (run : Run) (h : Running setup run) (empty : run.stack.
   no_frames : m.frames ≡ []
   no_frames = ap (frames_of (told run)) empty
 
-  no_lines : lines_left m.frames ≡ 0
-  no_lines = ap lines_left no_frames
-
   sound_with : (left : Left) (k : ℕ) → IsLeft setup.command left → k < 2 ^ 64 → Sound setup (record run { left = left; candidates = k })
   sound_with left k there small = record {
     command = h.sound.command;

@@ -12,10 +12,11 @@ use Rattle.scan_model.specs.declared.token.Tok.{Tok}
 use Rattle.scan_model.specs.HeaderName.{Term, terms}
 use Rattle.scan_model.specs.Search.{searched, place_searched}
 use Rattle.scan_model.specs.State.{Setup}
+use Rattle.scan_model.specs.Conditionals.{Opening, opening_of}
 use Rattle.if_values.specs.Known.{has_count}
 use Rattle.plain_lines.specs.Conditions.{test_count}
 use Rattle.unit_steps.specs.Stack.{current}
-use Rattle.unit_steps.specs.Searches.{Opening, Search, on_absent, with_terms}
+use Rattle.unit_steps.specs.Searches.{Search, on_absent, with_terms}
 use Rattle.unit_steps.specs.Stands.{Acts, Stands, IsCandidate}
 use Rattle.unit_steps.specs.Work.{rank, lines_left, not_begun}
 use Rattle.unit_steps.proofs.Reaching.{drop_at}
@@ -35,7 +36,7 @@ use Rattle.unit_scan.specs.declared.stage.Blame.TheVariants as BlameIs
 use Rattle.unit_scan.specs.declared.stage.Stage.{Stage}
 use Rattle.unit_scan.specs.declared.stage.Stage.TheVariants as StageIs
 use Rattle.unit_scan.specs.Parts.{Sound, frames_of, present, told, top_of, moment_of, work_of}
-use Rattle.unit_scan.specs.Lookups.{IsTesting, IsAsked, named, aim_of, opening_of, opening, first_path, paths_after, so_far, terms_from}
+use Rattle.unit_scan.specs.Lookups.{IsTesting, IsAsked, named, aim_of, opening, first_path, paths_after, so_far, terms_from}
 use Rattle.unit_scan.specs.Standing.{Seeking, Conditional, Follows, IsAnswered, stopped, blamed, search_now}
 use Rattle.unit_scan.proofs.Same.{told_same, frames_again, sound_again, search_again, stands_again, lookup_again}
 use Rattle.unit_scan.proofs.Falling.{rank_falls, order_falls}
@@ -118,9 +119,6 @@ module _ (setup : Setup) (run : Run) (n : Name) (purpose : Purpose) (h : Seeking
 
 first_more : (items : List Bool) (b : Bool) → reverse (items ++ b ∷ []) ≡ b ∷ reverse items
 first_more items b = reverse-append items (b ∷ [])
-
-one_less : (a b c : ℕ) → a + 1 + c ≡ b → (a + 1) + 0 + c ≡ b
-one_less a b c e = omega (arith, e)
 
 module _ (setup : Setup) (run : Run) (t t' : Testing) (there : Bool) (after : IsAnswered t there t') where
   pub testing_after : IsTesting run t 1 → IsTesting run t' 0

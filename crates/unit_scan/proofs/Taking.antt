@@ -1,5 +1,5 @@
 -- A line of the file at the top is taken.
-use Rattle.std.proofs.Common.{◌≡◌, ℕ, ◌+◌, ◌-◌, ◌<◌, ◌≤◌, Bool, true, false, List, [], ◌∷◌, ◌++◌, reverse, drop, length, slice_get, refl, ap, sym, ◌∙◌, subst, arith, length-append}
+use Rattle.std.proofs.Common.{◌≡◌, ℕ, ◌+◌, ◌-◌, ◌<◌, ◌≤◌, Bool, true, List, [], ◌∷◌, ◌++◌, reverse, drop, length, slice_get, refl, ap, sym, ◌∙◌, subst, arith, length-append}
 use Rattle.std.specs.Prelude.{Option, Some, None, IsSome, IfOk}
 use Rattle.std.specs.declared.result.Result.{Result}
 use Rattle.unit_scan.specs.Taking.{ActsAt}
@@ -13,7 +13,7 @@ use Rattle.scan_model.specs.declared.token.Line.{Line}
 use Rattle.scan_model.specs.declared.unit_end.Place.{Place}
 use Rattle.scan_model.specs.HeaderName.{Term, Named}
 use Rattle.scan_model.specs.Condition.{value}
-use Rattle.scan_model.specs.Conditionals.{is_skipped, with_has_values, on_value}
+use Rattle.scan_model.specs.Conditionals.{is_skipped, with_has_values, on_value, opening_of, on_chosen}
 use Rattle.scan_model.specs.DirectiveLines.{effect}
 use Rattle.scan_model.specs.Files.{FileMap}
 use Rattle.scan_model.specs.ModuleLines.{Builder}
@@ -28,7 +28,6 @@ use Rattle.plain_lines.specs.declared.action.Action.TheVariants as ActionIs
 use Rattle.plain_lines.specs.declared.kept_line.KeptLine.{KeptLine}
 use Rattle.plain_lines.specs.declared.state.FileState.{FileState}
 use Rattle.plain_lines.specs.declared.state.UnitState.{UnitState}
-use Rattle.plain_lines.specs.Conditions as plain
 use Rattle.plain_lines.specs.Conditions.{test_count}
 use Rattle.plain_lines.specs.Lines.{line_of}
 use Rattle.plain_lines.specs.Actions.{Does}
@@ -48,7 +47,7 @@ use Rattle.unit_scan.specs.declared.parts.OpenFile.{OpenFile}
 use Rattle.unit_scan.specs.declared.parts.Run.{Run}
 use Rattle.unit_scan.specs.declared.stage.Stage.{Stage}
 use Rattle.unit_scan.specs.Parts.{IsFile, Sound, frame_of, frames_of, taken_last, present, no_line, told, moment_of, work_of}
-use Rattle.unit_scan.specs.Lookups.{HasTaken, place_at, opening_of}
+use Rattle.unit_scan.specs.Lookups.{HasTaken, place_at}
 use Rattle.unit_scan.specs.Standing.{Running, Acted, After, Follows, FollowsLine, stopped, stage_order}
 use Rattle.unit_scan.proofs.Falling.{measured, rank_falls}
 use Rattle.unit_scan.proofs.Testing.{terms_are}
@@ -56,12 +55,9 @@ use Rattle.unit_scan.proofs.Stacks.{frames_with, top_first, last_file, with_file
 
 -- the tests of a condition, with what its value chooses, as both sides say it
 tests_same : (files : FileMap (List Line)) (setup : Setup) (l : Line) (ts : List Term) (toks : List Tok) (c : Core) (is_elif : Bool) (gs : List Group) →
-    with_has_values {X = List Line} files setup l ts c (λ has. on_value l (plain.on_chosen l (plain.opening_of is_elif gs)) (value toks has))
+    with_has_values {X = List Line} files setup l ts c (λ has. on_value l (on_chosen l (opening_of is_elif gs)) (value toks has))
     ≡ with_terms files setup l (opening_of is_elif gs) [] ts toks c
-tests_same files setup l ts toks c true (g ∷ gs) = refl
-tests_same files setup l ts toks c true [] = refl
-tests_same files setup l ts toks c false (g ∷ gs) = refl
-tests_same files setup l ts toks c false [] = refl
+tests_same files setup l ts toks c is_elif gs = refl
 
 module _ (setup : Setup) (run : Run) (h : Running setup run) (below : List OpenFile) (file : OpenFile) (on_stack : run.stack.items ≡ below ++ file ∷ []) (at : KeptLine) (there : slice_get (lines_at (told run) file.answer) file.next ≡ Some (line_of at)) (own : FileState) (state : UnitState) (stack : Vec OpenFile) where
   abbrev file' : OpenFile

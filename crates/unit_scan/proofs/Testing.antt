@@ -16,7 +16,7 @@ use Rattle.scan_model.specs.declared.condition.CondFault.{CondFault}
 use Rattle.scan_model.specs.HeaderName.{Term, Plain, Has, terms}
 use Rattle.scan_model.specs.Condition.{value}
 use Rattle.scan_model.specs.ConditionValue.{is_nonzero}
-use Rattle.scan_model.specs.Conditionals.{fault_of, is_skipped}
+use Rattle.scan_model.specs.Conditionals.{fault_of, is_skipped, opening_of}
 use Rattle.scan_model.specs.Paths.{folder}
 use Rattle.scan_model.specs.Search.{searched, search_form}
 use Rattle.scan_model.specs.State.{Group, Setup}
@@ -44,7 +44,7 @@ use Rattle.unit_scan.specs.declared.stage.Blame.TheVariants as BlameIs
 use Rattle.unit_scan.specs.declared.stage.Stage.{Stage}
 use Rattle.unit_scan.specs.declared.stage.Stage.TheVariants as StageIs
 use Rattle.unit_scan.specs.Parts.{IsFile, Sound, frame_of, frames_of, present, told, top_of, moment_of, work_of}
-use Rattle.unit_scan.specs.Lookups.{HasTaken, IsTesting, named, place_at, opening_of, opening, so_far, terms_from}
+use Rattle.unit_scan.specs.Lookups.{HasTaken, IsTesting, named, place_at, opening, so_far, terms_from}
 use Rattle.unit_scan.specs.Standing.{Running, Conditional, Acted, Follows, FollowsJump, blamed, stopped}
 use Rattle.unit_scan.proofs.Falling.{order_falls, rank_falls, same_falls, measured}
 use Rattle.unit_scan.proofs.Leaping.{condition_jumped}

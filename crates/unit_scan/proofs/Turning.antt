@@ -1,5 +1,5 @@
 -- One turn of a unit.
-use Rattle.std.proofs.Common.{◌≡◌, true, false, [], sym, subst}
+use Rattle.std.proofs.Common.{◌≡◌, false, [], sym, subst}
 use Rattle.scan_model.specs.State.{Setup}
 use Rattle.unit_steps.specs.UnitView.{Phase, Runs, Asks, Over, Spent, IsOver, is_over, BeginsLooks}
 use Rattle.unit_scan.specs.declared.parts.Run.{Run}
@@ -7,12 +7,6 @@ use Rattle.unit_scan.specs.declared.stage.Stage.{Stage}
 use Rattle.unit_scan.specs.Parts.{answers_of, told}
 use Rattle.unit_scan.specs.Standing.{Standing}
 use Rattle.unit_scan.proofs.Fitting.{stage_begins}
-
-pub over_is : (phase : Phase) → is_over phase ≡ true → IsOver phase
-over_is Runs h = cc
-over_is (Asks path) h = cc
-over_is (Over end) h = tt
-over_is Spent h = tt
 
 pub over_not : (phase : Phase) → is_over phase ≡ false → IsOver phase → ⊥
 over_not Runs h over = over

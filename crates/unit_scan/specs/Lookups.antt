@@ -1,5 +1,5 @@
 -- What a unit looks for, as a search of the definitions.
-use Rattle.std.specs.Prelude.{◌≡◌, ℕ, ◌+◌, ◌<◌, ◌≤◌, Bool, true, List, [], ◌∷◌, reverse, drop, take, length, IsTrue, is_some, Some}
+use Rattle.std.specs.Prelude.{◌≡◌, ℕ, ◌+◌, ◌<◌, ◌≤◌, Bool, List, [], ◌∷◌, reverse, drop, take, length, IsTrue, is_some, Some}
 use Rattle.std.specs.Option.{option_map, option_map_or}
 use Rattle.scan_model.specs.declared.token.Tok.{Tok}
 use Rattle.scan_model.specs.declared.token.Line.{Line}
@@ -7,13 +7,14 @@ use Rattle.scan_model.specs.declared.unit_end.Place.{Place}
 use Rattle.scan_model.specs.declared.unit_end.FaultKind.{FaultKind}
 use Rattle.scan_model.specs.declared.unit_end.FaultKind.TheVariants as FaultIs
 use Rattle.scan_model.specs.HeaderName.{Term, Named, terms}
-use Rattle.scan_model.specs.State.{Group, Setup}
+use Rattle.scan_model.specs.State.{Setup}
 use Rattle.scan_model.specs.Search.{searched, place_searched}
+use Rattle.scan_model.specs.Conditionals.{Opening, opening_of}
 use Rattle.unit_laws.specs.Reduction.{Given}
 use Rattle.if_values.specs.Known.{has_count}
 use Rattle.plain_lines.specs.Conditions.{test_count}
 use Rattle.unit_steps.specs.Stack.{Frame, current}
-use Rattle.unit_steps.specs.Searches.{Opening, OfIf, OfElif, Aim, Included, Tested, Search, first_search, name_search}
+use Rattle.unit_steps.specs.Searches.{Aim, Included, Tested, Search, first_search, name_search}
 use Rattle.unit_steps.specs.Stands.{AreAbsent, IsCandidate}
 use Rattle.unit_scan.specs.declared.parts.OpenFile.{OpenFile}
 use Rattle.unit_scan.specs.declared.parts.Run.{Run}
@@ -38,10 +39,6 @@ first_path setup Predefines = option_map_or (λ path. path) setup.settings.prede
 first_path setup Main = setup.command.main
 
 -- ## Conditions
-
-abbrev pub opening_of : Bool → List Group → Opening
-opening_of true (g ∷ gs) = OfElif g gs
-opening_of is_elif gs = OfIf
 
 -- the terms of the tokens from a place on
 abbrev pub terms_from : List Tok → ℕ → List Term

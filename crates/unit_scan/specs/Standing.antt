@@ -6,7 +6,7 @@ use Rattle.scan_model.specs.declared.unit_end.FaultKind.{FaultKind}
 use Rattle.scan_model.specs.declared.unit_end.UnitEnd.{UnitEnd}
 use Rattle.scan_model.specs.declared.unit_end.UnitEnd.TheVariants as Ends
 use Rattle.scan_model.specs.State.{Setup}
-use Rattle.scan_model.specs.Conditionals.{is_skipped}
+use Rattle.scan_model.specs.Conditionals.{is_skipped, opening_of}
 use Rattle.scan_model.specs.HeaderName.{terms}
 use Rattle.scan_model.specs.Macros.{first_macros}
 use Rattle.scan_model.specs.ModuleLines.{new}
@@ -41,7 +41,7 @@ use Rattle.unit_scan.specs.declared.turn.Turn.{Turn}
 use Rattle.unit_scan.specs.declared.turn.Turn.TheVariants.{Ask, Done}
 use Rattle.unit_scan.specs.Parts.{Sound, told, frames_of, present, moment_of, work_of}
 use Rattle.unit_scan.specs.Told.{rank_limit}
-use Rattle.unit_scan.specs.Lookups.{terms_from, so_far, opening_of, opening, place_at, HasTaken, search_of, paths_after, IsTesting, IsLookup, AbsentSoFar, IsAsked}
+use Rattle.unit_scan.specs.Lookups.{terms_from, so_far, opening, place_at, HasTaken, search_of, paths_after, IsTesting, IsLookup, AbsentSoFar, IsAsked}
 
 module _ (setup : Setup) (run : Run) where
   -- the search, where the unit is now

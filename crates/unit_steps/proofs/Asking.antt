@@ -11,13 +11,13 @@ use Rattle.scan_model.specs.Condition.{value}
 use Rattle.scan_model.specs.Files.{FileMap, find, looked_at, and_later}
 use Rattle.scan_model.specs.State.{Setup, Core, then_go}
 use Rattle.scan_model.specs.Effect.{Now, Enters, done, stop_at}
-use Rattle.scan_model.specs.Conditionals.{on_value, opened, with_group}
+use Rattle.scan_model.specs.Conditionals.{on_value, opened, with_group, OfElif, OfIf, Opening, on_chosen}
 use Rattle.scan_model.specs.Answer.{Answer, answer_by, end_of, fault_or, looked_by, looks_of}
 use Rattle.unit_laws.specs.Reduction.{Given}
 use Rattle.unit_laws.specs.KnownAnswers.{asked}
 use Rattle.unit_laws.proofs.GrowthLemmas.{Longer, longer_trans, core_of, Fit, Grows, grow, grow_if, grow_with_found, grow_has_values, grow_on_value, AbsentGrows, PresentGrows, FurtherGrows, on_found_longer, done_onward, enter_grows, onward_trans, then_onward}
 use Rattle.unit_steps.specs.Stack.{as_they_are, rest_of_all, entering}
-use Rattle.unit_steps.specs.Searches.{Aim, First_file, Included, Tested, Opening, OfIf, OfElif, Search, searching, on_absent, on_present, on_chosen, put_before, with_terms}
+use Rattle.unit_steps.specs.Searches.{Aim, First_file, Included, Tested, Search, searching, on_absent, on_present, put_before, with_terms}
 use Rattle.unit_steps.specs.Moments.{Moment, core_at}
 use Rattle.unit_steps.specs.Stands.{AreKept, Agree, Stands}
 use Rattle.unit_steps.proofs.Growing.{same_map, rest_onward, looks_onward}

@@ -72,9 +72,6 @@ done_enterless e f s (Sends l c) h = refl
 done_enterless e f s (Halts cause c) h = refl
 
 module _ (setup : Setup) (m : Moment) (answers : List (List ℕ × Given)) (number : ℕ) (setting : Setting) (rest : List Setting) (top : m.top ≡ Setting_from number (setting ∷ rest)) (frames : m.frames ≡ []) (looking : m.search ≡ None) (stands : Stands setup m answers) where
-  abbrev over : Moment
-  over = record m { top = Setting_from (number + 1) rest }
-
   abbrev first_of : FileMap (List Line) → List Line → State → Reached
   first_of files ls s =
       then_go (main_file files setup) (then_go (forced_files files setup (length setup.command.settings + 1) setup.command.forced)

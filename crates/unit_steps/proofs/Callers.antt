@@ -1,10 +1,10 @@
 -- What callers take from the clauses of a unit.
 use Rattle.std.proofs.Common.{◌≡◌, ℕ, suc, List, [], ◌∷◌, ◌++◌, length, slice_get, refl, ap, sym, ◌∙◌, subst}
-use Rattle.std.specs.Prelude.{Some, None}
+use Rattle.std.specs.Prelude.{Some}
 use Rattle.scan_model.specs.declared.command.Job.TheVariants as JobIs
 use Rattle.scan_model.specs.declared.unit_end.UnitEnd.{UnitEnd}
 use Rattle.scan_model.specs.Files.{FileMap}
-use Rattle.scan_model.specs.Answer.{Answer, Known, answer, looked}
+use Rattle.scan_model.specs.Answer.{Known, answer, looked}
 use Rattle.unit_laws.specs.Reduction.{Given, reduced}
 use Rattle.unit_laws.specs.KnownAnswers.{Agrees, asked}
 use Rattle.unit_laws.proofs.GrowingAnswers.{begins_longer}
@@ -15,7 +15,7 @@ next_one : (xs : List (List ℕ)) (p : List ℕ) (rest : List (List ℕ)) → sl
 next_one [] p rest = refl
 next_one (x ∷ xs) p rest = next_one xs p rest
 
-length_asked : (answers : List (List ℕ × Given)) → length (asked answers) ≡ length answers
+pub length_asked : (answers : List (List ℕ × Given)) → length (asked answers) ≡ length answers
 length_asked [] = refl
 length_asked (a ∷ answers) = ap (λ n. suc n) (length_asked answers)
 
@@ -27,13 +27,6 @@ kth_looked u path files asks fits agree =
     let k = begins_longer (asked u.answers ++ path ∷ []) (looked files u.settings (JobIs.Run u.command)) h in
     ap (λ n. slice_get (looked files u.settings (JobIs.Run u.command)) n) (sym (length_asked u.answers))
     ∙ ap (λ z. slice_get z (length (asked u.answers))) k.1 ∙ next_one (asked u.answers) path k.0
-
--- a map that has an answer that needs no path has each path that is asked
-pub asked_is_there : (u : UnitView) (path : List ℕ) (end : UnitEnd) (files : FileMap (List ℕ)) → u.phase ≡ Asks path → Fits u → Agrees files u.answers →
-    answer files u.settings (JobIs.Run u.command) ≡ Known end → files path ≡ None → ⊥
-asked_is_there u path end files asks fits agree known none =
-    let needs = (subst (λ z. FitsPhase u.settings u.command u.answers z) asks fits).1 files agree none in
-    let no : Known end ≡ Answer.Unread path = sym known ∙ needs in cc
 
 -- at the end: the answer, and no further look
 pub end_is_answer : (u : UnitView) (end : UnitEnd) (files : FileMap (List ℕ)) → u.phase ≡ Over end → Fits u → Agrees files u.answers →

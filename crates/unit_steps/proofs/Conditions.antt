@@ -1,5 +1,5 @@
 -- The terms of a condition, one after another, and its value.
-use Rattle.std.proofs.Common.{◌≡◌, ℕ, Bool, true, false, List, [], ◌∷◌, refl, ap, sym, ◌∙◌, subst}
+use Rattle.std.proofs.Common.{◌≡◌, ℕ, Bool, List, [], ◌∷◌, refl, ap, sym, ◌∙◌, subst}
 use Rattle.std.specs.Prelude.{Some, None}
 use Rattle.std.specs.declared.result.Result.TheVariants.{Ok, Err}
 use Rattle.scan_model.specs.declared.token.Tok.{Tok}
@@ -17,20 +17,15 @@ use Rattle.scan_model.specs.Files.{FileMap}
 use Rattle.scan_model.specs.State.{Setup, Core}
 use Rattle.scan_model.specs.Effect.{Effect, Now}
 use Rattle.scan_model.specs.Search.{search_form}
-use Rattle.scan_model.specs.Conditionals.{fault_of, on_value, on_terms}
+use Rattle.scan_model.specs.Conditionals.{fault_of, on_value, OfElif, OfIf, Opening, on_chosen}
 use Rattle.unit_laws.specs.Reduction.{Given}
 use Rattle.unit_laws.specs.KnownAnswers.{asked}
 use Rattle.unit_steps.specs.Stack.{Frame}
-use Rattle.unit_steps.specs.Searches.{Opening, OfIf, OfElif, Tested, name_search, on_absent, on_present, on_chosen, chosen_groups, put_before, with_terms}
+use Rattle.unit_steps.specs.Searches.{Tested, name_search, chosen_groups, put_before, with_terms}
 use Rattle.unit_steps.specs.Moments.{Moment, core_at}
 use Rattle.unit_steps.specs.Stands.{Acts, Stands, StandsAtEnd}
 use Rattle.unit_steps.proofs.Steps.{same_effect, search_begins}
 use Rattle.unit_steps.proofs.Effects.{here, effect_goes, effect_faulty_here}
-
--- the terms of a condition's tokens
-pub terms_begin : (files : FileMap (List Line)) (setup : Setup) (c : Core) (l : Line) (opening : Opening) (toks : List Tok) (ts : List Term) →
-    on_terms files setup c l toks (on_chosen l opening) (Some ts) ≡ with_terms files setup l opening [] ts toks c
-terms_begin files setup c l opening toks ts = refl
 
 chosen_effect : (l : Line) (opening : Opening) (yields : Bool) (c : Core) → on_chosen {X = List Line} l opening yields c ≡ Now (record c { stack = chosen_groups l opening yields c.stack })
 chosen_effect l OfIf yields c = refl
@@ -52,21 +47,6 @@ module _ (g : List Term → List Term) (none : g [] ≡ []) (plain : (t : Tok) (
       (λ files kept agree. terms_from_test files setup l opening so_far toks (core_at m (asked answers)) ts)
 
 module _ (setup : Setup) (m : Moment) (answers : List (List ℕ × Given)) (l : Line) (opening : Opening) (toks : List Tok) where
-  -- an answer for the last `__has_include`
-  pub test_absent : (place : Place) (so_far : List Bool) (ts : List Term) → Acts setup m answers (λ files c. on_absent files setup (Tested l opening so_far ts toks) place c) →
-      Acts setup m answers (λ files c. with_terms files setup l opening (false ∷ so_far) ts toks c)
-  test_absent place so_far ts acts = acts
-
-  pub test_present : (place : Place) (so_far : List Bool) (ts : List Term) (path : List ℕ) (text : List Line) →
-      Acts setup m answers (λ files c. on_present files setup (Tested l opening so_far ts toks) place path text c) →
-      Acts setup m answers (λ files c. with_terms files setup l opening (true ∷ so_far) ts toks c)
-  test_present place so_far ts path text acts = acts
-
-  -- a token that is none
-  pub term_passed : (so_far : List Bool) (t : Tok) (ts : List Term) → Acts setup m answers (λ files c. with_terms files setup l opening so_far (Plain t ∷ ts) toks c) →
-      Acts setup m answers (λ files c. with_terms files setup l opening so_far ts toks c)
-  term_passed so_far t ts acts = acts
-
   -- in the file f
   module _ (f : Frame) (fs : List Frame) (frames : m.frames ≡ f ∷ fs) where
     -- where faults of the condition stand

@@ -19,12 +19,13 @@ use Rattle.scan_model.specs.Effect.{Effect, Now, Sends, Halts, fault, stop_at}
 use Rattle.scan_model.specs.Search.{searched, place_searched}
 use Rattle.scan_model.specs.Includes.{include}
 use Rattle.scan_model.specs.Answer.{Known, answer_of}
+use Rattle.scan_model.specs.Conditionals.{Opening}
 use Rattle.unit_laws.specs.Reduction.{Given}
 use Rattle.unit_laws.specs.KnownAnswers.{asked}
 use Rattle.unit_laws.proofs.GrowthLemmas.{lines_of_append}
 use Rattle.unit_laws.proofs.GrowingAnswers.{lines_go_on, read_kept, end_by_fault}
 use Rattle.unit_steps.specs.Stack.{Frame, Top, rest_of_all}
-use Rattle.unit_steps.specs.Searches.{Opening, include_search, with_terms}
+use Rattle.unit_steps.specs.Searches.{include_search, with_terms}
 use Rattle.unit_steps.specs.Moments.{Moment, core_at, after_line}
 use Rattle.unit_steps.specs.Stands.{EndsOver, StandsOver, AreKept, Agree, ActsOver, Acts, Stands, StandsAtEnd}
 use Rattle.unit_steps.proofs.Growing.{rest_onward}
@@ -137,8 +138,3 @@ module _ (setup : Setup) (m : Moment) (answers : List (List ℕ × Given)) (f : 
       let found = does files in
       let same : found.0 ≡ ts = ap (λ o. option_map_or (λ us. us) o []) (sym found.1.0 ∙ some) in
       acts_as (with_terms files setup l opening [] ts toks here) files kept agree (found.1.1 ∙ ap (λ us. with_terms files setup l opening [] us toks here) same)
-
-  -- so it has terms
-  pub effect_has_terms : (toks : List Tok) (P : FileMap (List Line) → List Term → Type 0) → ((files : FileMap (List Line)) → (us : List Term) × ((terms toks ≡ Some us) × P files us)) →
-      (ts : List Term) × (terms toks ≡ Some ts)
-  effect_has_terms toks P does = let found = does (λ path. None) in (found.0, found.1.0)

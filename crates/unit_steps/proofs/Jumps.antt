@@ -1,17 +1,17 @@
 -- A jump over the lines of a group that isn't taken.
-use Rattle.std.proofs.Common.{◌≡◌, ℕ, zero, suc, ◌+◌, ◌-◌, ◌<◌, Bool, true, ◌≢◌, if◌then◌else◌, List, [], ◌∷◌, drop, length, slice_get, refl, ap, ◌∙◌, subst, arith}
-use Rattle.std.proofs.lemmas.Bool.{eq-eqb, ne_eqb}
+use Rattle.std.proofs.Common.{◌≡◌, ℕ, zero, suc, ◌+◌, ◌-◌, ◌<◌, Bool, true, ◌≢◌, if◌then◌else◌, List, [], ◌∷◌, drop, length, refl, ap, ◌∙◌, subst, arith}
 use Rattle.std.proofs.lemmas.List.{drop-drop}
-use Rattle.std.specs.Prelude.{Some, None}
+use Rattle.std.specs.Prelude.{None}
 use Rattle.std.specs.List.{list_all}
 use Rattle.std.specs.declared.result.Result.TheVariants.{Ok}
+use Rattle.std.proofs.lemmas.Bool.{and_parts}
 use Rattle.scan_model.specs.declared.token.Line.{Line}
 use Rattle.scan_model.specs.declared.skip.Skip.{Skip}
 use Rattle.scan_model.specs.declared.skip.Skip.TheVariants.{Partner, Broken, Open}
 use Rattle.scan_model.specs.Lines.{is_directive}
 use Rattle.scan_model.specs.ModuleLines.{Builder, new}
 use Rattle.scan_model.specs.Files.{FileMap}
-use Rattle.scan_model.specs.State.{Group, Setup, State, Reached, Going, Stopped, then_go}
+use Rattle.scan_model.specs.State.{Setup, State, Reached, Going, Stopped, then_go}
 use Rattle.scan_model.specs.Stream.{Piece, read_stream, take_lines}
 use Rattle.scan_model.specs.Conditionals.{is_skipped}
 use Rattle.scan_model.specs.Skips.{skip}
@@ -19,14 +19,14 @@ use Rattle.scan_model.specs.WholeFile.{end_run, full_lines, at_file_end}
 use Rattle.scan_model.specs.Answer.{Known, answer_of, end_of, looks_of, fault_or, looked_of}
 use Rattle.unit_laws.specs.Reduction.{Given, SameSent, Alike}
 use Rattle.unit_laws.specs.KnownAnswers.{asked}
-use Rattle.unit_laws.specs.Skipping.{line_at, opening_line, unbalanced, ended, Tells}
+use Rattle.unit_laws.specs.Skipping.{line_at, unbalanced, ended, Tells}
 use Rattle.unit_laws.proofs.SkipLemmas.{skip_tells}
 use Rattle.unit_steps.specs.Stack.{Frame, current, within, rest_of_all, entering, closing}
 use Rattle.unit_steps.specs.Jumps.{IsBehind, unbalanced_at, left_open}
 use Rattle.unit_steps.specs.Laws.{SkipLeaves, JumpsStand}
 use Rattle.unit_steps.specs.Moments.{Moment, core_at, with_rest}
 use Rattle.unit_steps.specs.Stands.{AreDirectives, IsReached, StandsOver, Stands, StandsAtEnd}
-use Rattle.unit_steps.proofs.Reaching.{go_alike, two_within, both_true}
+use Rattle.unit_steps.proofs.Reaching.{go_alike, two_within}
 use Rattle.unit_steps.proofs.Steps.{reached_in_file}
 use Rattle.unit_steps.proofs.Entering.{same_end}
 use Rattle.unit_steps.proofs.Steps.{core_in_file}
@@ -37,13 +37,7 @@ use Rattle.unit_steps.proofs.SkipRanges.{skip_behind}
 all_after : {X : Type 0} (p : X → Bool) (n : ℕ) (xs : List X) → list_all p xs ≡ true → list_all p (drop n xs) ≡ true
 all_after p zero xs h = h
 all_after p (suc n) [] h = refl
-all_after p (suc n) (x ∷ xs) h = all_after p n xs (both_true (p x) (list_all p xs) h).1
-
--- the line at a place is the one that stands there
-pub line_there : (ls : List Line) (k : ℕ) (l : Line) → slice_get ls k ≡ Some l → line_at ls k ≡ l.line
-line_there [] k l h = absurd (cc)
-line_there (x ∷ xs) zero l h = let same : x ≡ l = cc in ap (λ z. z.line) same
-line_there (x ∷ xs) (suc k) l h = line_there xs k l h
+all_after p (suc n) (x ∷ xs) h = all_after p n xs (and_parts (p x) (list_all p xs) h).1
 
 -- ## Streams
 
@@ -142,11 +136,3 @@ jumps_stand setup m answers f fs ls k frames rest skipped looking there stands =
     by_skip setup m answers f fs ls k frames rest skipped looking stands there (skip ls k setup.command.dialect) refl
 
 -- ## The line of an open conditional
-
--- the skip's own has the line that the group on the stack has
-pub left_open_own : (ls : List Line) (k : ℕ) (groups : List Group) → left_open ls k k groups ≡ opening_line groups
-left_open_own ls k groups = ap (λ b. if b then opening_line groups else line_at ls k) (eq-eqb k k refl)
-
--- another one has the line of its place
-pub left_open_other : (ls : List Line) (k m : ℕ) (groups : List Group) (l : Line) → m ≢ k → slice_get ls m ≡ Some l → left_open ls k m groups ≡ l.line
-left_open_other ls k m groups l other there = ap (λ b. if b then opening_line groups else line_at ls m) (ne_eqb m k other) ∙ line_there ls m l there

@@ -2,11 +2,9 @@
 use Rattle.std.proofs.Common.{◌≡◌, ℕ, ◌+◌, ◌-◌, ◌*◌, ◌^◌, ◌<◌, ◌≤◌, List, [], ◌∷◌, drop, length, ap, arith, length-drop}
 use Rattle.std.specs.List.{AllByRecursion}
 use Rattle.scan_model.specs.declared.token.Line.{Line}
-use Rattle.scan_model.specs.declared.command.Setting.{Setting}
-use Rattle.scan_model.specs.State.{Setup}
 use Rattle.scan_model.specs.WholeFile.{entered_limit}
-use Rattle.unit_steps.specs.Stack.{Frame, Setting_from, Forced_from, Nothing_more}
-use Rattle.unit_steps.specs.Work.{Work, IsMeasured, rank, not_begun, lines_left}
+use Rattle.unit_steps.specs.Stack.{Frame}
+use Rattle.unit_steps.specs.Work.{Work, IsMeasured, rank, lines_left}
 
 -- ## By one of the four numbers
 
@@ -34,10 +32,6 @@ files_fall w v m less =
 pub entering_falls : (entered : ℕ) → entered < entered_limit → entered_limit - (entered + 1) < entered_limit - entered
 entering_falls entered few = omega (arith, few)
 
--- a line that is taken
-pub line_falls : (f : Frame) (fs : List Frame) (l : Line) (ls : List Line) (left : ℕ) → f.rest ≡ l ∷ ls → lines_left (record f { rest = ls } ∷ fs) + left < lines_left (f ∷ fs) + left
-line_falls f fs l ls left rest = let one = ap length rest in omega (arith, one)
-
 -- a jump forward
 pub jump_falls : (f : Frame) (fs : List Frame) (ls : List Line) (k j left : ℕ) → f.rest ≡ drop (k + 1) ls → k < j → lines_left (record f { rest = drop j ls } ∷ fs) + left ≤ lines_left (f ∷ fs) + left
 jump_falls f fs ls k j left rest behind =
@@ -45,25 +39,6 @@ jump_falls f fs ls k j left rest behind =
     let a = length-drop (k + 1) ls in
     let b = length-drop j ls in
     omega (arith, all, a, b, behind)
-
--- a file that ends
-pub end_keeps : (f : Frame) (fs : List Frame) → f.rest ≡ [] → lines_left fs ≡ lines_left (f ∷ fs)
-end_keeps f fs rest = let none = ap length rest in omega (arith, none)
-
--- a setting, all settings, a forced file and the main file that begin
-pub setting_falls : (setup : Setup) (number : ℕ) (setting : Setting) (settings : List Setting) →
-    not_begun setup (Setting_from (number + 1) settings) < not_begun setup (Setting_from number (setting ∷ settings))
-setting_falls setup number setting settings = omega arith
-
-pub settings_keep : (setup : Setup) (number next : ℕ) → not_begun setup (Forced_from next setup.command.forced) ≡ not_begun setup (Setting_from number [])
-settings_keep setup number next = omega arith
-
-pub forced_falls : (setup : Setup) (number : ℕ) (name : List ℕ) (names : List (List ℕ)) →
-    not_begun setup (Forced_from (number + 1) names) < not_begun setup (Forced_from number (name ∷ names))
-forced_falls setup number name names = omega arith
-
-pub main_falls : (setup : Setup) (number : ℕ) → not_begun setup Nothing_more < not_begun setup (Forced_from number [])
-main_falls setup number = omega arith
 
 -- ## How much there is at most
 

@@ -1,5 +1,5 @@
 -- Runs one after another.
-use Rattle.std.proofs.Common.{◌≡◌, ℕ, zero, suc, ◌+◌, Bool, true, false, ◌&&◌, List, [], ◌∷◌, ◌++◌, drop, slice_get, refl, ap, ◌∙◌, arith}
+use Rattle.std.proofs.Common.{◌≡◌, ℕ, zero, suc, ◌+◌, ◌&&◌, List, [], ◌∷◌, ◌++◌, drop, slice_get, refl, ap, ◌∙◌, arith}
 use Rattle.std.specs.Prelude.{Some, None}
 use Rattle.std.specs.List.{AllByRecursion}
 use Rattle.scan_model.specs.State.{State, Reached, Going, Stopped, then_go}
@@ -29,10 +29,6 @@ all_parts P (x ∷ xs) ys h = let parts = all_parts P xs ys h.1 in ((h.0, parts.
 pub all_one : {X : Type 0} (P : X → Type 0) (xs : List X) (x : X) → AllByRecursion P xs → P x → AllByRecursion P (xs ++ x ∷ [])
 all_one P [] x h k = (k, tt)
 all_one P (y ∷ xs) x h k = (h.0, all_one P xs x h.1 k)
-
-pub both_true : (a b : Bool) → (a && b) ≡ true → (a ≡ true) × (b ≡ true)
-both_true true b h = (refl, h)
-both_true false b h = cc
 
 -- the element at a place, and what follows
 pub drop_at : {X : Type 0} (all : List X) (k : ℕ) (p : X) → slice_get all k ≡ Some p → drop k all ≡ p ∷ drop (k + 1) all

@@ -1,10 +1,6 @@
 -- Moments that are the same in each part.
 use Rattle.std.proofs.Common.{◌≡◌, ℕ, List}
-use Rattle.scan_model.specs.Macros.{Macros}
 use Rattle.unit_steps.specs.Moments.{Moment}
-
-pub same_macros : (m n : Macros) → ((name : List ℕ) → m.defs name ≡ n.defs name) → ((name : List ℕ) → m.saved name ≡ n.saved name) → m ≡ n
-same_macros m n defs saved = λ i. record { defs = λ name. defs name i; saved = λ name. saved name i }
 
 pub same_moment : (m n : Moment) → m.top ≡ n.top → m.frames ≡ n.frames → m.search ≡ n.search → m.macros ≡ n.macros → ((path : List ℕ) → m.once path ≡ n.once path) →
     m.entered ≡ n.entered → m.builder ≡ n.builder → m ≡ n

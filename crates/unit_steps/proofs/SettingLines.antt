@@ -4,7 +4,7 @@ use Rattle.std.specs.Prelude.{Option, Some, None}
 use Rattle.std.specs.Option.{option_map_or}
 use Rattle.std.specs.List.{filter}
 use Rattle.std.specs.Str.{is_utf8, chars, IsUtf8}
-use Rattle.std.proofs.lemmas.Bool.{lt-ltb}
+use Rattle.std.proofs.lemmas.Bool.{lt-ltb, and_right}
 use Rattle.std.proofs.Math.Seq.{take-append_seam, take-append-add}
 use Rattle.std.proofs.lemmas.Str.{chars-append}
 use Rattle.scan_model.specs.declared.token.Kind.TheVariants.{Ident, Punct}
@@ -95,17 +95,13 @@ module _ (word : List ℕ) (after : ℕ) (u : List ℕ) (k : ℕ) (long : length
 no_token : (s : List ℕ) → is_name s ≡ false → is_number s ≡ false → is_char s ≡ false → is_quoted 34 s ≡ false → is_punct s ≡ false → is_token s ≡ false
 no_token s name number char quoted punct = rw name (rw number (rw char (rw quoted (rw punct refl))))
 
-and_false : (b c : Bool) → c ≡ false → (b && c) ≡ false
-and_false true c h = h
-and_false false c h = refl
-
 name_front : (front u : List ℕ) → IsUtf8 front → are_name (chars front ++ chars u) ≡ false → is_name (front ++ u) ≡ false
 unfolding is_name
-name_front front u text h = and_false (is_utf8 (front ++ u)) (are_name (chars (front ++ u))) (ap are_name (chars-append front u text) ∙ h)
+name_front front u text h = and_right (is_utf8 (front ++ u)) (are_name (chars (front ++ u))) (ap are_name (chars-append front u text) ∙ h)
 
 number_front : (front u : List ℕ) → IsUtf8 front → are_number (chars front ++ chars u) ≡ false → is_number (front ++ u) ≡ false
 unfolding is_number
-number_front front u text h = and_false (is_utf8 (front ++ u)) (are_number (chars (front ++ u))) (ap are_number (chars-append front u text) ∙ h)
+number_front front u text h = and_right (is_utf8 (front ++ u)) (are_number (chars (front ++ u))) (ap are_number (chars-append front u text) ∙ h)
 
 hash_define : (u : List ℕ) → is_token (codes "#d" ++ u) ≡ false
 unfolding reading
@@ -280,13 +276,6 @@ setting_keeps setting =
     let h = setting_first setting in
     let first = kept_first h.0 h.1.0 (begins_directive_line (directive_of_setting setting) h.0 h.0.line h.1.1.1) in
     (h.0, (filter is_directive h.1.0, (h.1.0, (ap (filter is_directive) h.1.1.0 ∙ first, h.1.1.0))))
-
-pub setting_kept : (setting : Setting) (l : Line) (rest : List Line) → kept (setting_text setting) ≡ l ∷ rest → (ls : List Line) × (lines (setting_text setting) ≡ l ∷ ls)
-unfolding first_or
-setting_kept setting l rest read =
-    let h = setting_keeps setting in
-    let same : h.0 ≡ l = ap (first_or l) (sym h.1.1.1.0 ∙ read) in
-    (h.1.1.0, h.1.1.1.1 ∙ ap (λ z. z ∷ h.1.1.0) same)
 
 -- outside skipped groups it has the setting's effect
 pub setting_line_acts : (files : FileMap (List Line)) (setup : Setup) (c : Core) (setting : Setting) (l : Line) (number : ℕ) → BeginsWithDirective (directive_of_setting setting) l →

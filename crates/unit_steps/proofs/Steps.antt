@@ -3,6 +3,7 @@ use Rattle.std.proofs.Common.{◌≡◌, ℕ, true, List, ◌∷◌, refl, ap, s
 use Rattle.std.specs.Prelude.{Some, None}
 use Rattle.std.specs.List.{list_all}
 use Rattle.std.specs.declared.result.Result.TheVariants.{Ok}
+use Rattle.std.proofs.lemmas.Bool.{and_parts}
 use Rattle.scan_model.specs.declared.token.Line.{Line}
 use Rattle.scan_model.specs.declared.unit_end.Place.{Place}
 use Rattle.scan_model.specs.declared.unit_end.FaultKind.{FaultKind}
@@ -24,7 +25,7 @@ use Rattle.unit_steps.specs.Stack.{Frame, Top, rest_of_all, entering, closing}
 use Rattle.unit_steps.specs.Searches.{Search, searching}
 use Rattle.unit_steps.specs.Moments.{Moment, core_at, goes_on, with_rest}
 use Rattle.unit_steps.specs.Stands.{EndsOver, AreKept, Agree, IsReached, AreDirectives, StandsOver, ActsOver, ByEffect, Acts, Stands, StandsAtEnd}
-use Rattle.unit_steps.proofs.Reaching.{both_true, three_within}
+use Rattle.unit_steps.proofs.Reaching.{three_within}
 
 -- ## The same effect
 
@@ -56,7 +57,7 @@ pub line_acts : (setup : Setup) (m : Moment) (answers : List (List ℕ × Given)
 line_acts setup m answers f fs l ls frames rest looking stands files kept agree =
     let h = stands files kept agree in
     let dirs = subst AreDirectives frames h.directives in
-    let first = both_true (is_directive l) (list_all is_directive ls) (subst (λ z. list_all is_directive z ≡ true) rest dirs.0) in
+    let first = and_parts (is_directive l) (list_all is_directive ls) (subst (λ z. list_all is_directive z ≡ true) rest dirs.0) in
     let E = entering files setup m.top (f ∷ fs) in
     let R = rest_of_all files setup m.top fs in
     let C = closing files setup fs in

@@ -13,20 +13,10 @@ use Rattle.scan_model.specs.State.{Group, Setup, Core, OutOfMemory}
 use Rattle.scan_model.specs.Effect.{Effect, Enters, Halts, fault, stop_at}
 use Rattle.scan_model.specs.Search.{with_found, searched, place_searched}
 use Rattle.scan_model.specs.Includes.{unless_once}
-use Rattle.scan_model.specs.Conditionals.{opened, with_group, with_has_values, on_value}
+use Rattle.scan_model.specs.Conditionals.{Opening, OfIf, OfElif, on_chosen, with_has_values, on_value}
 use Rattle.unit_laws.specs.Reduction.{Given}
 
 -- ## Why paths are looked at
-
--- what a condition is of: an `#if`, or an `#elif` of the first group, before the others
-pub data Opening : Type 0 where
-  OfIf : Opening
-  OfElif : Group → List Group → Opening
-
--- what the condition's value does
-abbrev pub on_chosen : {X : Type 0} → Line → Opening → Bool → Core → Effect X
-on_chosen l OfIf = opened l
-on_chosen l (OfElif g gs) = λ yields. with_group (record g { live = yields; taken = yields }) gs
 
 -- A first file, which is entered in any case and has no place in the chain; an include or a forced file, with the
 -- places in the chain that paths give; a `__has_include` or `__has_include_next` of a condition, with the answers so

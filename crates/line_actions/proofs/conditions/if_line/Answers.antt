@@ -2,11 +2,10 @@ use Rattle.std.proofs.Common.{sym, ◌∙◌, ap, List}
 use Rattle.scan_model.specs.declared.token.Tok.{Tok}
 use Rattle.scan_model.specs.declared.expansion.Mode.TheVariants as ModeIs
 use Rattle.scan_model.specs.HeaderName.{terms}
-use Rattle.scan_model.specs.Conditionals.{on_terms}
+use Rattle.scan_model.specs.Conditionals.{on_terms, on_chosen, opening_of}
 use Rattle.scan_model.specs.Expansion.{expand}
 use Rattle.macro_table.specs.Table.{macros_of}
 use Rattle.plain_lines.specs.States.{site_of}
-use Rattle.plain_lines.specs.Conditions.{on_chosen, opening_of}
 use Rattle.plain_lines.specs.Lines.{line_of, after_word}
 use Rattle.plain_lines.proofs.ActLemmas.{if_ok}
 use Rattle.line_actions.specs.Replaced.{outcome}
