@@ -3,17 +3,16 @@ use Rattle.std.specs.Prelude.{◌≡◌, ◌⊎◌, ℕ, List, map, Some, if◌t
 use Rattle.std.specs.Map.{lookup}
 use Rattle.std.specs.declared.alloc.Global.{Global}
 use Rattle.std.specs.declared.vec.Vec.{Vec}
+use Rattle.byte_keys.specs.Maps.{entry_by}
 use Rattle.scan_model.specs.declared.token.Line.{Line}
 use Rattle.scan_model.specs.Files.{Content, FileMap}
 use Rattle.scan_model.specs.TokenTests.{same}
 use Rattle.reducer.specs.declared.Answer.{Answer}
 use Rattle.reducer.specs.Answers.{content_of}
 
-abbrev pub entry : Vec ℕ Global × Answer → List ℕ × Content (List Line)
-entry e = (e.0.items, content_of e.1)
-
+-- the answers by their paths
 abbrev pub entries : List (Vec ℕ Global × Answer) → List (List ℕ × Content (List Line))
-entries es = map entry es
+entries es = map (entry_by content_of) es
 
 -- what is kept of a path
 unfoldable pub known_to : List (List ℕ × Content (List Line)) → FileMap (List Line)

@@ -1,7 +1,8 @@
 ghost use Rattle.std.specs.Prelude.{◌≡◌, [], IfOk, OnOk};
+ghost use Rattle.byte_keys.specs.Maps.{IsPut};
 ghost use Rattle.file_source.specs.CameOf.{IsCaused, bytes_of, came_of_bytes, count_of, outcome_of};
 ghost use Rattle.file_source.specs.Made.{came_at, came_of_text};
-ghost use Rattle.file_source.specs.Texts.{AreListed, IsPut, text_in};
+ghost use Rattle.file_source.specs.Texts.{AreListed, text_in};
 
 use crate::given::Came;
 use crate::{Listed, MadeFile, Source};

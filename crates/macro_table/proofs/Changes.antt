@@ -19,7 +19,8 @@ use Rattle.std.proofs.lemmas.List.Elements.{All-nil, All-cons, All-head, All-tai
 use Rattle.std.specs.declared.alloc.Global.{Global}
 use Rattle.std.specs.declared.vec.Vec.{Vec}
 use Rattle.macro_table.specs.Entries.{entries}
-use Rattle.macro_table.proofs.Lookups.{is_at, same_key, slot_of-entries, Changes, changes_one}
+use Rattle.byte_keys.specs.Maps.{is_at, same_key, IsPut}
+use Rattle.byte_keys.proofs.MapLemmas.{put_changes_one, entries_find}
 
 module _ {X : Type 0} where
   pub put_same : (f : List ℕ → X) (name : List ℕ) (x : X) → f name ≡ x → put f name x ≡ f
@@ -29,6 +30,13 @@ module _ {X : Type 0} where
       | inl y ↦ cond-true (same name other) x (f other) y ∙ sym e ∙ ap f ((bytes_decides name other).0 y)
       | inr n ↦ cond-false (same name other) x (f other) n
     ]
+
+-- the name has s in the new table, and each other name what it had
+abbrev Changes : List ℕ → SlotView → List (List ℕ × SlotView) → List (List ℕ × SlotView) → Type 0
+Changes name s old new = (other : List ℕ) → slot_of other new ≡ cond (same name other) (Some s) (slot_of other old)
+
+changes_one : (name : List ℕ) (s : SlotView) (old new : List (Vec ℕ Global × SlotView)) → IsPut name s old new → Changes name s (entries old) (entries new)
+changes_one name s old new put other = entries_find new other ∙ put other ∙ ap (cond (same name other) (Some s)) (sym (entries_find old other))
 
 -- the map with this at the name
 abbrev pub with_slot : Macros → List ℕ → SlotView → Macros
@@ -42,7 +50,7 @@ one_stack : (b : Bool) (s : SlotView) (o : Option SlotView) → option_map_or (�
 one_stack true s o = refl
 one_stack false s o = refl
 
-pub macros_of-changes : (name : List ℕ) (s : SlotView) (old new : List (List ℕ × SlotView)) → Changes name s old new → macros_of new ≡ with_slot (macros_of old) name s
+macros_of-changes : (name : List ℕ) (s : SlotView) (old new : List (List ℕ × SlotView)) → Changes name s old new → macros_of new ≡ with_slot (macros_of old) name s
 unfolding macros_of
 macros_of-changes name s old new h = λ i. record {
   defs = λ other. (ap (option_and_then (λ s. s.current)) (h other) ∙ one_def (same name other) s (slot_of other old)) i;
@@ -63,10 +71,10 @@ slot_absent table name e = (ap (option_and_then (λ s. s.current)) e, ap (λ o. 
 
 -- by the entry that the code found, or where it found none
 pub found : (es : List (Vec ℕ Global × SlotView)) (name : List ℕ) (s : SlotView) → Some s ≡ lookup (is_at name) es → HasSlot (entries es) name s
-found es name s e = slot_found (entries es) name s (slot_of-entries name es ∙ sym e)
+found es name s e = slot_found (entries es) name s (entries_find es name ∙ sym e)
 
 pub absent : (es : List (Vec ℕ Global × SlotView)) (name : List ℕ) → None ≡ lookup (is_at name) es → HasSlot (entries es) name fresh
-absent es name e = slot_absent (entries es) name (slot_of-entries name es ∙ sym e)
+absent es name e = slot_absent (entries es) name (entries_find es name ∙ sym e)
 
 -- ## What each call does to the map, from what it did to the entries
 
@@ -78,8 +86,7 @@ pub record Puts (name key : List ℕ) (s : SlotView) (old new : List (Vec ℕ Gl
 
 changed : (name key : List ℕ) (s : SlotView) (old new : List (Vec ℕ Global × SlotView)) → Puts name key s old new → macros_of (entries new) ≡ with_slot (macros_of (entries old)) name s
 changed name key s old new p =
-    subst (λ n. macros_of (entries new) ≡ with_slot (macros_of (entries old)) n s) p.is_name
-    (macros_of-changes key s (entries old) (entries new) (changes_one key s old new p.here p.others))
+    macros_of-changes name s (entries old) (entries new) (changes_one name s old new (put_changes_one name key s old new p.is_name p.here p.others))
 
 module _ (name key : List ℕ) (s : SlotView) (old new : List (Vec ℕ Global × SlotView)) (has : HasSlot (entries old) name s) where
   abbrev before : Macros

@@ -40,9 +40,6 @@ is_function-no_operands params variadic body none = rw (← none) (none_fit (are
   none_fit true b = refl
   none_fit false b = refl
 
-pub is_function-twice : (names params : List (List ℕ)) (variadic : Option (List ℕ)) (body : List Tok) → names ≡ all_params params variadic → false ≡ are_distinct names → false ≡ is_function params variadic body
-is_function-twice names params variadic body all twice = let e : are_distinct (all_params params variadic) ≡ false = ap are_distinct (sym all) ∙ sym twice in rw e refl
-
 -- ## The name
 
 pub read_define-refused : (ts : List Tok) → false ≡ begins_with is_name ts → None ≡ read_define ts

@@ -1,4 +1,3 @@
-pub mod Lookups
 pub mod Changes
 pub mod HeadLemmas
 pub mod Distinct

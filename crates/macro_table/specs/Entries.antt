@@ -5,6 +5,7 @@ use Rattle.std.specs.declared.alloc.Global.{Global}
 use Rattle.std.specs.declared.sync.Arc.{Arc}
 use Rattle.std.specs.declared.vec.Vec.{Vec}
 use Rattle.scan_model.specs.declared.macros.Def.{Def}
+use Rattle.byte_keys.specs.Maps.{entry_by}
 use Rattle.macro_table.specs.Table.{SlotView}
 
 abbrev pub shared : Option (Arc Def Global) → Option Def
@@ -14,8 +15,6 @@ shared def = option_map (λ d. d.value) def
 abbrev pub shared_stack : List (Option (Arc Def Global)) → List (Option Def)
 shared_stack defs = reverse (map shared defs)
 
-abbrev pub entry : Vec ℕ Global × SlotView → List ℕ × SlotView
-entry e = (e.0.items, e.1)
-
+-- what each name has
 abbrev pub entries : List (Vec ℕ Global × SlotView) → List (List ℕ × SlotView)
-entries es = map entry es
+entries es = map (entry_by (λ s. s)) es

@@ -1,6 +1,5 @@
-ghost use Rattle.std.specs.Prelude.{◌≡◌, ◌+◌, ◌<◌, ◌^◌};
+ghost use Rattle.std.specs.Prelude.{◌≡◌};
 ghost use Rattle.std.specs.Option.{option_map};
-ghost use Rattle.scan_model.specs.Parentheses.{depth_after};
 ghost use Rattle.macro_table.specs.Names.{enclosed_tokens, inside_parens};
 
 use scan_model::Tok;
@@ -24,21 +23,7 @@ fn before_close(toks: &[Tok]) -> Option<&[Tok]>
         if depth == 0 && tok.is_close_paren() {
             return Some(&toks[..i]);
         }
-        depth = depth_after(tok, depth);
+        depth = tok.depth_after(depth);
     }
     None
-}
-
-/// How many parentheses are open after the token.
-fn depth_after(tok: &Tok, depth: usize) -> usize
-    requires { depth + 1 < 2 ^ 64 }
-    ensures { result ≡ depth_after tok.now depth }
-{
-    if tok.is_open_paren() {
-        depth + 1
-    } else if tok.is_close_paren() {
-        depth.saturating_sub(1)
-    } else {
-        depth
-    }
 }

@@ -1,11 +1,10 @@
 ghost use Rattle.std.specs.Prelude.{◌≡◌};
-ghost use Rattle.std.specs.List.{list_any};
 ghost use Rattle.scan_model.specs.MacroDefinition as definition;
 ghost use Rattle.scan_model.specs.TokenTests.{begins_with, ends_with, is_paste};
 ghost use Rattle.macro_table.specs.Names.{has_name, is_operand_by, fits_by};
 
 use crate::parentheses::inside_parens;
-use scan_model::Tok;
+use scan_model::{Tok, has_opt};
 use std::collections::HashSet;
 
 /// Whether no `##` begins or ends the tokens ([cpp.concat]).
@@ -84,10 +83,4 @@ fn opt_fits(toks: &[Tok]) -> bool
         Some(content) => has_operands(content) && !has_opt(content),
         None => false,
     }
-}
-
-fn has_opt(toks: &[Tok]) -> bool
-    ensures { result ≡ list_any definition.is_opt toks.now }
-{
-    toks.iter().any(Tok::is_opt)
 }

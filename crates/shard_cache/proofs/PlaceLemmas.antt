@@ -1,13 +1,16 @@
 -- How an index is read, and how it goes on.
-use Rattle.std.proofs.Common.{◌≡◌, ◌≢◌, ◌<◌, ℕ, zero, suc, Bool, true, false, cond, List, [], ◌∷◌, ◌++◌, length, get_or, MutBor, All, refl, sym, ap, ◌∙◌, subst, arith}
+use Rattle.std.proofs.Common.{◌≡◌, ◌≢◌, ◌<◌, ℕ, zero, suc, Bool, true, false, cond, List, [], ◌∷◌, ◌++◌, length, MutBor, All, refl, sym, ap, ◌∙◌, subst}
 use Rattle.std.specs.Prelude.{Option, Some, None, slice_get, IsSome, is_some, Result, Ok, Err, is_err, OnOk, MatchOption}
 use Rattle.std.specs.Option.{option_copied_mut}
 use Rattle.std.specs.Map.{lookup, KeepsOthers}
-use Rattle.std.specs.Cmp.Lexicographic.{bytes_decides, nat_list_eq_equiv}
+use Rattle.std.specs.Cmp.Lexicographic.{bytes_decides}
 use Rattle.std.specs.declared.alloc.Global.{Global}
 use Rattle.std.specs.declared.vec.Vec.{Vec}
 use Rattle.std.proofs.lemmas.List.Elements.{All-nil, All-cons}
+use Rattle.std.proofs.lemmas.Option.{same_Some}
 use Rattle.scan_model.specs.TokenTests.{same}
+use Rattle.byte_keys.specs.Maps.{is_at, same_key}
+use Rattle.byte_keys.proofs.MapLemmas.{put_changes_one, entries_find}
 use Rattle.shard_cache.specs.Places.{entries, place_of, IsPlaced, last_of, last_place, IsIndexOf}
 
 -- ## Equal paths
@@ -27,15 +30,9 @@ other_paths p q not e = true_false (sym (same_itself p) ∙ (ap (λ z. same p z)
 pub some_none : {A : Type 0} (x : A) → Some x ≡ None → ⊥
 some_none x e = cc
 
-pub some_same : {A : Type 0} (x y : A) → Some x ≡ Some y → x ≡ y
-some_same x y e = cc
-
-some_inj : (j k : ℕ) → Some j ≡ Some k → j ≡ k
-some_inj j k e = cc
-
 -- ## The last place
 
-last_of_none : (b : Bool) (o : Option ℕ) → last_of b o ≡ None → (b ≡ false) × (o ≡ None)
+pub last_of_none : (b : Bool) (o : Option ℕ) → last_of b o ≡ None → (b ≡ false) × (o ≡ None)
 last_of_none true None e = absurd (some_none zero e)
 last_of_none false None e = (refl, refl)
 last_of_none b (Some k) e = absurd (some_none (suc k) e)
@@ -61,10 +58,10 @@ module _ {X : Type 0} (path_of : X → List ℕ) where
       → (y : X) × (slice_get (x ∷ xs) k ≡ Some y) × (path_of y ≡ path)
   at_last x xs path k b (Some j) is last e rest =
       let found = rest j last in
-      let at : suc j ≡ k = some_inj (suc j) k e in
+      let at : suc j ≡ k = same_Some (suc j) k e in
       (found.0, subst (λ n. slice_get (x ∷ xs) n ≡ Some found.0) at found.1, found.2)
   at_last x xs path k true None is last e rest =
-      let at : zero ≡ k = some_inj zero k e in
+      let at : zero ≡ k = same_Some zero k e in
       (x, subst (λ n. slice_get (x ∷ xs) n ≡ Some x) at refl, same_is (path_of x) path is)
   at_last x xs path k false None is last e rest = absurd (some_none k (sym e))
 
@@ -136,49 +133,16 @@ known_on path j old new placed other some = subst IsSome (sym (placed other)) (e
 
 -- ## The entries of the map
 
-abbrev pub is_at : List ℕ → Vec ℕ Global → Bool
-is_at path key = same path key.items
-
-abbrev pub same_key : Vec ℕ Global → Vec ℕ Global → Bool
-same_key k l = same k.items l.items
-
 pub place_in : (es : List (Vec ℕ Global × ℕ)) (path : List ℕ) → place_of (entries es) path ≡ lookup (is_at path) es
 unfolding place_of
-place_in [] path = refl
-place_in (e ∷ es) path = ap (cond (same path e.0.items) (Some e.1)) (place_in es path)
-
-pub place_empty : (path : List ℕ) → place_of [] path ≡ None
-unfolding place_of
-place_empty path = refl
-
-apart : (path other key : List ℕ) → same path other ≡ false → same path key ≡ true → same other key ≡ false
-apart path other key n y = nat_list_eq_equiv.symm other key ∙ sym (nat_list_eq_equiv.congr path key other y) ∙ n
-
-others_kept : (path : List ℕ) (old new : List (Vec ℕ Global × ℕ)) → KeepsOthers same_key (is_at path) old new → (other : List ℕ) → same path other ≡ false → lookup (is_at other) new ≡ lookup (is_at other) old
-unfolding KeepsOthers
-others_kept path old new h other n = h (is_at other) (λ x y. nat_list_eq_equiv.congr other x.items y.items) (λ k. apart path other k.items n)
-
-placed_at : (path : List ℕ) (place : ℕ) (old new : List (Vec ℕ Global × ℕ)) (other : List ℕ) (b : Bool) → same path other ≡ b → lookup (is_at path) new ≡ Some place → KeepsOthers same_key (is_at path) old new
-    → place_of (entries new) other ≡ cond b (Some place) (place_of (entries old) other)
-placed_at path place old new other true is here others = place_in new other ∙ subst (λ n. lookup (is_at n) new ≡ Some place) (same_is path other is) here
-placed_at path place old new other false is here others = place_in new other ∙ (others_kept path old new others other is ∙ sym (place_in old other))
+place_in es path = entries_find es path
 
 -- what a map tells of an entry that was put or changed
 pub is_placed : (path key : List ℕ) (place : ℕ) (old new : List (Vec ℕ Global × ℕ)) → key ≡ path → lookup (is_at key) new ≡ Some place → KeepsOthers same_key (is_at key) old new → IsPlaced path place (entries old) (entries new)
 is_placed path key place old new is here others other =
-    placed_at path place old new other (same path other) refl (subst (λ p. lookup (is_at p) new ≡ Some place) is here) (subst (λ p. KeepsOthers same_key (is_at p) old new) is others)
+    place_in new other ∙ put_changes_one path key place old new is here others other ∙ ap (cond (same path other) (Some place)) (sym (place_in old other))
 
 -- ## Reading a list
-
-pub get_at : {X : Type 0} (xs : List X) (k : ℕ) (x y : X) → slice_get xs k ≡ Some x → get_or xs k y ≡ x
-get_at [] k x y e = absurd (some_none x (sym e))
-get_at (z ∷ xs) zero x y e = some_same z x e
-get_at (z ∷ xs) (suc k) x y e = get_at xs k x y e
-
-pub inside_at : {X : Type 0} (xs : List X) (k : ℕ) (x : X) → slice_get xs k ≡ Some x → k < length xs
-inside_at [] k x e = absurd (some_none x (sym e))
-inside_at (z ∷ xs) zero x e = omega arith
-inside_at (z ∷ xs) (suc k) x e = let h = inside_at xs k x e in omega arith
 
 pub match_weaker : {X A C : Type 0} {B D : X → Type 0} (o : Option X) → (A → C) → ((x : X) → B x → D x) → MatchOption o A B → MatchOption o C D
 match_weaker None f g m = f m
@@ -188,9 +152,6 @@ match_weaker (Some x) f g m = g x m
 pub at_ok : {X Y U : Type 0} (r : Result X Y) → is_err r ≡ false → OnOk r U → U
 at_ok (Ok x) e u = u
 at_ok (Err y) e u = absurd (true_false e)
-
-pub is_some_at : {A : Type 0} (o p : Option A) → IsSome p → o ≡ p → o ≡ None → ⊥
-is_some_at o p some e none = true_false (sym some ∙ ap is_some (sym e ∙ none))
 
 pub none_some : {A : Type 0} (r : Option (MutBor A)) (o : Option A) → option_copied_mut r ≡ o → r ≡ None → IsSome o → ⊥
 none_some r o copied none some = true_false (sym some ∙ ap is_some (sym copied ∙ ap option_copied_mut none))

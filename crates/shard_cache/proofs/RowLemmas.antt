@@ -1,11 +1,10 @@
 -- What a change of one shard keeps.
-use Rattle.std.proofs.Common.{◌≡◌, ◌≢◌, ◌<◌, ◌+◌, ◌⊎◌, ℕ, zero, suc, List, [], ◌∷◌, ◌++◌, map, length, All, get_or, reverse, refl, sym, ⊎_elim, append_assoc, ◌∙◌, ap, inl, inr, arith, OnOk, IfErr, Result, Ok, Err, Some, slice_get}
+use Rattle.std.proofs.Common.{◌≡◌, ◌≢◌, ◌<◌, ◌+◌, ◌⊎◌, ℕ, zero, suc, List, [], ◌∷◌, ◌++◌, map, length, All, get_or, reverse, refl, sym, ⊎_elim, ◌∙◌, ap, inl, inr, arith, OnOk, IfErr, Result, Ok, Err}
 use Rattle.std.proofs.Math.ListN.{set, length-set}
 use Rattle.std.proofs.lemmas.List.Elements.{All-nil, All-cons, All-head, All-tail, All-push, All-map}
-use Rattle.std.proofs.lemmas.List.{map-append, get_or-map, length-map, reverse-append, append-nil}
-use Rattle.std.proofs.lemmas.Option.{slice_get-get_or}
+use Rattle.std.proofs.lemmas.List.{map-append, length-map, append-nil, nil_from_length}
 use Rattle.shard_cache.specs.declared.kept_row.KeptRow.{KeptRow}
-use Rattle.shard_cache.specs.Rows.{ShardView, fresh_shard, IsShard, AreShards, IsStore, LacksPath, AllDiffer, paths_of, shard_number, change_at, kept_also, rows_at, all_rows, all_asked, all_origins}
+use Rattle.shard_cache.specs.Rows.{ShardView, fresh_shard, IsShard, AreShards, IsStore, LacksPath, AllDiffer, paths_of, shard_number, change_at, kept_also, all_rows, all_asked, all_origins}
 
 -- a fact of each of two lists, one after the other
 pub All-parts : {X : Type 0} (P : X → Type 0) (xs ys : List X) → All P (xs ++ ys) → All P xs × All P ys
@@ -89,14 +88,10 @@ pub record AreFresh {S O G : Type 0} (fits : KeptRow S O G → Type 0) (origin :
   pub origins : all_origins shards ≡ map origin sources
   pub valid : IsStore fits shards
 
-empty : {A : Type 0} (xs : List A) → length xs ≡ 0 → xs ≡ []
-empty [] e = refl
-empty (x ∷ xs) e = absurd (omega arith)
-
 -- the store that is made, where no source is left
 pub made-all : {S O G : Type 0} (asked : S → List (List ℕ)) (origin : S → ℕ) (fits : KeptRow S O G → Type 0) (sources left : List S) (shards : List (ShardView S O G)) → length sources ≡ 16 → All (λ source. asked source ≡ []) sources → shards ++ map (fresh_shard asked origin) (reverse left) ≡ map (fresh_shard asked origin) sources → length left ≡ 0 → AreFresh fits origin sources shards
 made-all {O = O} {G = G} asked origin fits sources left shards sixteen unasked made none =
-    let nothing : left ≡ [] = empty left none in
+    let nothing : left ≡ [] = nil_from_length left none in
     let all : shards ≡ map (fresh_shard asked origin) sources = sym (append-nil shards) ∙ rw nothing at made in
     record {
       no_row = rw all (fresh_rows asked origin sources);
@@ -107,20 +102,6 @@ made-all {O = O} {G = G} asked origin fits sources left shards sixteen unasked m
         each = fresh_shards O asked origin fits 0 sources;
       });
     }
-
--- the rows of the shard that is read by its index
-pub rows_at-index : {S O G : Type 0} (shards : List (ShardView S O G)) (k : ℕ) (shard : ShardView S O G) → k < length shards → shard ≡ get_or shards k shard → rows_at shards k ≡ shard.rows
-rows_at-index shards k shard inside at = get_or-map (λ s. s.rows) shards k shard [] inside ∙ ap (λ s. s.rows) (sym at)
-
--- the origin of the shard that is read by its index
-pub origin-index : {S O G : Type 0} (shards : List (ShardView S O G)) (k : ℕ) (shard : ShardView S O G) → k < length shards → shard ≡ get_or shards k shard → slice_get (all_origins shards) k ≡ Some shard.origin
-origin-index shards k shard inside at =
-    let within : k < length (all_origins shards) = rw (length-map shards (λ s. s.origin)) inside in
-    slice_get-get_or (all_origins shards) k shard.origin within ∙ ap Some (get_or-map (λ s. s.origin) shards k shard shard.origin inside ∙ ap (λ s. s.origin) (sym at))
-
--- while a store is made: one source more has its shard
-pub made-more : {A B : Type 0} (f : A → B) (made : List B) (items left : List A) (x : A) → items ≡ left ++ x ∷ [] → (made ++ f x ∷ []) ++ map f (reverse left) ≡ made ++ map f (reverse items)
-made-more f made items left x e = rw (e, reverse-append left (x ∷ [])) (append_assoc made (f x ∷ []) (map f (reverse left)))
 
 -- what a store keeps after an ask of one shard's source
 pub IsStore-asked : {S O G : Type 0} (fits : KeptRow S O G → Type 0) (path : List ℕ) (k : ℕ) (shards : List (ShardView S O G)) (old y : ShardView S O G) → IsStore fits shards → k < 16 → old ≡ get_or shards k old → LacksPath shards path → y.rows ≡ old.rows → IsStore fits (set shards k y)

@@ -4,12 +4,11 @@ use Rattle.std.specs.Map.{lookup}
 use Rattle.std.specs.declared.alloc.Global.{Global}
 use Rattle.std.specs.declared.vec.Vec.{Vec}
 use Rattle.scan_model.specs.TokenTests.{same}
+use Rattle.byte_keys.specs.Maps.{entry_by}
 
-abbrev pub entry : Vec ℕ Global × ℕ → List ℕ × ℕ
-entry e = (e.0.items, e.1)
-
+-- the places by their paths
 abbrev pub entries : List (Vec ℕ Global × ℕ) → List (List ℕ × ℕ)
-entries es = map entry es
+entries es = map (entry_by (λ place. place)) es
 
 -- the place that an index has for a path
 unfoldable pub place_of : List (List ℕ × ℕ) → List ℕ → Option ℕ

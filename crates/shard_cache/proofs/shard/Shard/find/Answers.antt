@@ -1,9 +1,10 @@
-use Rattle.std.proofs.Common.{rules, ◌≡◌, ◌≢◌, ◌<◌, ◌≤◌, length, refl, sym, ap, subst, ◌∙◌, All, arith}
+use Rattle.std.proofs.Common.{rules, ◌≡◌, ◌≢◌, ◌<◌, ◌≤◌, length, sym, ap, subst, ◌∙◌, All, arith}
 use Rattle.std.specs.Prelude.{Some, None, false}
+use Rattle.std.proofs.lemmas.Option.{same_Some, slice_get_within, get_or_from_slice_get}
 use Rattle.scan_model.specs.TokenTests.{same}
 use Rattle.shard_cache.specs.declared.kept_row.KeptRow.{KeptRow}
 use Rattle.shard_cache.specs.Places.{place_of}
-use Rattle.shard_cache.proofs.PlaceLemmas.{absent, get_at, inside_at, other_paths, some_none, some_same}
+use Rattle.shard_cache.proofs.PlaceLemmas.{absent, other_paths, some_none}
 use Rattle.shard_cache.proofs.shard.Shard.find.Goals as goal
 
 pub returns-in_default : goal.returns-in_default
@@ -23,7 +24,7 @@ returns-then-place-len g c =
     let past : length rows ≤ c.in-Some.place = search rules in
     subst (λ rows. All (λ row. row.path ≢ path) rows) (ap (λ s. s.rows) c.self.view_is)
     (absent (λ row. row.path) rows places path c.self.invariant.0
-    (λ k x at found is. let e = some_same k c.in-Some.place (sym at ∙ here) in let i = inside_at rows k x found in omega arith))
+    (λ k x at found is. let e = same_Some k c.in-Some.place (sym at ∙ here) in let i = slice_get_within rows k x found in omega arith))
 
 pub returns-else-eq : goal.returns-else-eq
 returns-else-eq g c =
@@ -36,6 +37,6 @@ returns-else-eq g c =
     subst (λ rows. All (λ row. row.path ≢ path) rows) (ap (λ s. s.rows) c.self.view_is)
     (absent (λ row. row.path) rows places path c.self.invariant.0
     (λ k x at found is.
-    let e = some_same k c.in-Some.place (sym at ∙ here) in
-    let one : row ≡ x = c.index-row.ensures ∙ (ap (λ n. Rattle.std.proofs.Common.get_or rows n row) (sym e) ∙ get_at rows k x row found) in
+    let e = same_Some k c.in-Some.place (sym at ∙ here) in
+    let one : row ≡ x = c.index-row.ensures ∙ (ap (λ n. Rattle.std.proofs.Common.get_or rows n row) (sym e) ∙ get_or_from_slice_get rows k x row found) in
     other_paths row.path path differ (ap (λ (r : KeptRow g.row.S.Denot g.row.S-Opener.Denot g.row.S-Given.Denot). r.path) one ∙ is)))
