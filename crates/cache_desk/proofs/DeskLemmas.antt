@@ -1,6 +1,6 @@
 -- What a shard's state keeps.
-use Rattle.std.proofs.Common.{Result, Ok, Err, ◌≡◌, ◌<◌, ◌≤◌, ◌+◌, ◌-◌, ℕ, Bool, true, false, List, [], ◌∷◌, ◌++◌, length, map, All, take, get_or, refl, sym, ap, ◌∙◌, subst, arith}
-use Rattle.std.proofs.lemmas.List.{map-append, length-map, length-append, map_more}
+use Rattle.std.proofs.Common.{Result, Ok, Err, ◌≡◌, ◌<◌, ◌≤◌, ◌+◌, ◌-◌, ℕ, List, [], ◌∷◌, ◌++◌, length, All, refl, sym, ap, ◌∙◌, subst, arith}
+use Rattle.std.proofs.lemmas.List.{map-append, length-map, length-append}
 use Rattle.std.proofs.lemmas.List.Elements.{All-push, All-weaker}
 use Rattle.scan_model.specs.declared.Outcome.{Outcome}
 use Rattle.scan_model.specs.TokenTests.{same}
@@ -12,23 +12,16 @@ use Rattle.cache_desk.specs.declared.happened.Happened.{Happened}
 use Rattle.cache_desk.specs.declared.happened.Happened.TheVariants as HappenedIs
 use Rattle.cache_desk.specs.declared.desk.Spot.{Spot}
 use Rattle.cache_desk.specs.declared.desk.Spot.TheVariants as SpotIs
-use Rattle.cache_desk.specs.Log.{Standing, Free, Claimed, Done, claim, after, standing, standing_from, MayFollow, IsLegal, HasClaim, claims, claims_and, still_open}
+use Rattle.cache_desk.specs.Log.{Standing, Free, Claimed, Done, claim, standing, MayFollow, IsLegal, HasClaim, claims, still_open}
 use Rattle.scan_model.specs.declared.memory.NoMemory as want
 use Rattle.cache_desk.specs.declared.desk.Found.{Found}
 use Rattle.cache_desk.specs.declared.desk.Found.TheVariants as FoundIs
-use Rattle.cache_desk.specs.Desk.{Looks, fixed_of, DeskView, IsSound, IsKept, IsDesk, HasRoom, Tells, row_outcome, path_of, entry_of, entries, log_of, row_published}
-use Rattle.cache_desk.proofs.LogLemmas.{legal_more, claim_stays, claims_more, open_falls, open_rises, standing_on}
+use Rattle.cache_desk.specs.Desk.{Looks, DeskView, IsSound, IsKept, IsDesk, HasRoom, Tells, row_outcome, entry_of, entries, row_published}
+use Rattle.cache_desk.proofs.LogLemmas.{legal_more, claim_stays, claims_more, open_falls, open_rises}
 
 module _ {S O G : Type 0} (outcome : G → Outcome) (bytes : G → List ℕ) where
   entries_more : (events events' : List (Happened S O G)) (h : Happened S O G) → events' ≡ events ++ h ∷ [] → entries outcome bytes events' ≡ entries outcome bytes events ++ entry_of outcome bytes h ∷ []
   entries_more events events' h e = ap (entries outcome bytes) e ∙ map-append (entry_of outcome bytes) events (h ∷ [])
-
-  pub log_more : (events events' : List (Happened S O G)) (h : Happened S O G) → events' ≡ events ++ h ∷ [] → entries outcome bytes events' ≡ entries outcome bytes events ++ entry_of outcome bytes h ∷ []
-  log_more events events' h e = entries_more events events' h e
-
-  path_is : (h : Happened S O G) → (entry_of outcome bytes h).path ≡ path_of h
-  path_is (HappenedIs.Claim c) = refl
-  path_is (HappenedIs.Publication p) = refl
 
   module _ (fits : KeptRow S O G → Type 0) (given_origin : G → ℕ) where
     abbrev Desk : ℕ → List (List ℕ) → ℕ → List (Happened S O G) → Type 0

@@ -1,42 +1,26 @@
 -- What the index of a shard's events tells.
 use Rattle.std.proofs.Common.{◌≡◌, ◌≢◌, ◌<◌, ◌≤◌, ◌+◌, ◌⊎◌, ℕ, zero, suc, Bool, true, false, List, [], ◌∷◌, ◌++◌, length, get_or, All, refl, sym, ap, ◌∙◌, subst, arith}
 use Rattle.std.specs.Prelude.{Option, Some, None, slice_get, IsSome, Contains}
-use Rattle.std.proofs.lemmas.List.Elements.{All-head, All-tail, All-weaker, All-contains, All-contains_itself}
+use Rattle.std.proofs.lemmas.List.Elements.{All-weaker, All-contains, All-contains_itself}
 use Rattle.std.proofs.lemmas.List.{length-append}
-use Rattle.std.proofs.lemmas.Option.{slice_get-get_or}
+use Rattle.std.proofs.lemmas.Option.{slice_get-get_or, same_Some, slice_get_within}
 use Rattle.scan_model.specs.declared.Outcome.{Outcome}
 use Rattle.scan_model.specs.TokenTests.{same}
 use Rattle.shard_cache.specs.declared.KeptRow.{KeptRow}
 use Rattle.shard_cache.specs.Places.{place_of, last_of, last_place, IsIndexOf}
-use Rattle.shard_cache.proofs.PlaceLemmas.{all_others, last_has, same_is, same_itself, inside_at}
-use Rattle.cache_desk.specs.declared.entry.Entry.{Entry}
+use Rattle.shard_cache.proofs.PlaceLemmas.{all_others, last_has, same_is, same_itself, some_none, last_of_none}
 use Rattle.cache_desk.specs.declared.entry.Event.{Event}
 use Rattle.cache_desk.specs.declared.entry.Event.TheVariants as EventIs
 use Rattle.cache_desk.specs.declared.happened.Happened.{Happened}
 use Rattle.cache_desk.specs.declared.happened.Happened.TheVariants as HappenedIs
-use Rattle.cache_desk.specs.Log.{Standing, Free, Claimed, Done, left_by, after, standing_from, standing}
+use Rattle.cache_desk.specs.Log.{Standing, Free, Claimed, left_by, after, standing_from, standing}
 use Rattle.std.specs.Option.{ForSome}
 use Rattle.cache_desk.specs.Desk.{path_of, entry_of, entries, row_in, row_and, rows_in}
-
-some_none : {A : Type 0} (x : A) → Some x ≡ None → ⊥
-some_none x e = cc
-
-some_is : {A : Type 0} (x y : A) → Some x ≡ Some y → x ≡ y
-some_is x y e = cc
+use Rattle.reducer.proofs.ReducedLemmas.{all_at}
 
 left_not_free : (by : ℕ) (event : Event) → left_by by event ≢ Free
 left_not_free by EventIs.Claimed e = cc
 left_not_free by (EventIs.Published o b) e = cc
-
-none_at : {X : Type 0} (P : X → Type 0) (xs : List X) (k : ℕ) (x : X) → All P xs → slice_get xs k ≡ Some x → P x
-none_at P [] k x all at = absurd (some_none x (sym at))
-none_at P (y ∷ xs) zero x all at = subst P (some_is y x at) (All-head P y xs all)
-none_at P (y ∷ xs) (suc k) x all at = none_at P xs k x (All-tail P y xs all) at
-
-none_rest : (b : Bool) (o : Option ℕ) → last_of b o ≡ None → (b ≡ false) × (o ≡ None)
-none_rest true None e = absurd (some_none zero e)
-none_rest false None e = (refl, refl)
-none_rest b (Some k) e = absurd (some_none (suc k) e)
 
 module _ {S O G : Type 0} (outcome : G → Outcome) (bytes : G → List ℕ) (path : List ℕ) where
   path_is : (h : Happened S O G) → (entry_of outcome bytes h).path ≡ path_of h
@@ -55,7 +39,7 @@ module _ {S O G : Type 0} (outcome : G → Outcome) (bytes : G → List ℕ) (pa
   stays : (s : Standing) (events : List (Happened S O G)) → last_place path_of events path ≡ None → standing_from s (entries outcome bytes events) path ≡ s
   stays s [] e = refl
   stays s (h ∷ events) e =
-      let n = none_rest (same (path_of h) path) (last_place path_of events path) e in
+      let n = last_of_none (same (path_of h) path) (last_place path_of events path) e in
       step s h events ∙ (ap (λ b. standing_from (left_after b s h) (entries outcome bytes events) path) n.0 ∙ stays s events n.1)
 
   last_step : (s : Standing) (h : Happened S O G) (events : List (Happened S O G)) (k : ℕ) (e : Happened S O G) (b : Bool) (o : Option ℕ) → same (path_of h) path ≡ b → last_place path_of events path ≡ o → last_of b o ≡ Some k
@@ -63,11 +47,11 @@ module _ {S O G : Type 0} (outcome : G → Outcome) (bytes : G → List ℕ) (pa
       → ((t : Standing) (j : ℕ) → last_place path_of events path ≡ Some j → slice_get events j ≡ Some e → standing_from t (entries outcome bytes events) path ≡ left_by (entry_of outcome bytes e).by (entry_of outcome bytes e).event)
       → standing_from s (entries outcome bytes (h ∷ events)) path ≡ left_by (entry_of outcome bytes e).by (entry_of outcome bytes e).event
   last_step s h events k e b (Some j) is last here at rest =
-      let kj : suc j ≡ k = some_is (suc j) k here in
+      let kj : suc j ≡ k = same_Some (suc j) k here in
       step s h events ∙ rest (left_after (same (path_of h) path) s h) j last (subst (λ n. slice_get (h ∷ events) n ≡ Some e) (sym kj) at)
   last_step s h events k e true None is last here at rest =
-      let k0 : zero ≡ k = some_is zero k here in
-      let first : h ≡ e = some_is h e (subst (λ n. slice_get (h ∷ events) n ≡ Some e) (sym k0) at) in
+      let k0 : zero ≡ k = same_Some zero k here in
+      let first : h ≡ e = same_Some h e (subst (λ n. slice_get (h ∷ events) n ≡ Some e) (sym k0) at) in
       step s h events ∙ (stays (left_after (same (path_of h) path) s h) events last
       ∙ (ap (λ c. left_after c s h) is ∙ ap (λ (x : Happened S O G). left_by (entry_of outcome bytes x).by (entry_of outcome bytes x).event) first))
   last_step s h events k e false None is last here at rest = absurd (some_none k (sym here))
@@ -91,9 +75,9 @@ module _ {S O G : Type 0} (outcome : G → Outcome) (bytes : G → List ℕ) (pa
     beyond_by : (k : ℕ) (o : Option ℕ) → last_place path_of events path ≡ o → place_of places path ≡ Some k → length events ≤ k → standing (entries outcome bytes events) path ≡ Free
     beyond_by k None last at out = stays Free events last
     beyond_by k (Some j) last at out =
-        let here : j ≡ k = some_is j k (sym (index path j last) ∙ at) in
+        let here : j ≡ k = same_Some j k (sym (index path j last) ∙ at) in
         let has = last_has path_of events path j last in
-        let inside = inside_at events j has.0 has.1 in
+        let inside = slice_get_within events j has.0 has.1 in
         absurd (omega arith)
 
     -- and so is one whose place has no event
@@ -103,11 +87,11 @@ module _ {S O G : Type 0} (outcome : G → Outcome) (bytes : G → List ℕ) (pa
     there_by : (k : ℕ) (e : Happened S O G) (o : Option ℕ) (b : Bool) → last_place path_of events path ≡ o → same (path_of e) path ≡ b → place_of places path ≡ Some k → slice_get events k ≡ Some e
         → standing (entries outcome bytes events) path ≡ left_after b Free e
     there_by k e None false last is at found = stays Free events last
-    there_by k e None true last is at found = absurd (none_at (λ (x : Happened S O G). path_of x ≢ path) events k e (all_others path_of events path last) found (same_is (path_of e) path is))
+    there_by k e None true last is at found = absurd (all_at (λ (x : Happened S O G). path_of x ≢ path) events k e (all_others path_of events path last) found (same_is (path_of e) path is))
     there_by k e (Some j) b last is at found =
-        let here : j ≡ k = some_is j k (sym (index path j last) ∙ at) in
+        let here : j ≡ k = same_Some j k (sym (index path j last) ∙ at) in
         let has = last_has path_of events path j last in
-        let one : has.0 ≡ e = some_is has.0 e (sym has.1 ∙ (ap (λ n. slice_get events n) here ∙ found)) in
+        let one : has.0 ≡ e = same_Some has.0 e (sym has.1 ∙ (ap (λ n. slice_get events n) here ∙ found)) in
         let yes : true ≡ b = sym (same_itself path) ∙ (ap (λ p. same p path) (sym has.2) ∙ (ap (λ (x : Happened S O G). same (path_of x) path) one ∙ is)) in
         stands_last Free events k e (subst (λ n. last_place path_of events path ≡ Some n) here last) found ∙ ap (λ c. left_after c Free e) yes
 
@@ -163,7 +147,7 @@ module _ {S O G : Type 0} where
   -- the path of an event's row has a place where the event's has
   pub row_known : (places : List (List ℕ × ℕ)) (e : Happened S O G) → IsSome (place_of places (path_of e)) → ForSome (row_in e) (λ r. IsSome (place_of places r.path))
   row_known places (HappenedIs.Claim c) has = λ x none. absurd (some_none x (sym none))
-  row_known places (HappenedIs.Publication p) has = λ x some. subst (λ (r : KeptRow S O G). IsSome (place_of places r.path)) (some_is p.row x some) has
+  row_known places (HappenedIs.Publication p) has = λ x some. subst (λ (r : KeptRow S O G). IsSome (place_of places r.path)) (same_Some p.row x some) has
 
   rows_append : (events later : List (Happened S O G)) → rows_in (events ++ later) ≡ rows_in events ++ rows_in later
   rows_append [] later = refl

@@ -1,23 +1,14 @@
 -- How a log goes on.
-use Rattle.std.proofs.Common.{◌≡◌, ◌≢◌, ◌<◌, ◌≤◌, ◌+◌, ℕ, zero, suc, Bool, true, false, List, [], ◌∷◌, ◌++◌, length, All, refl, sym, ap, ◌∙◌, subst, arith, append_assoc, if◌then◌else◌}
-use Rattle.std.proofs.lemmas.List.Elements.{All-nil, All-cons, All-head, All-tail, All-push, All-map, All-append}
+use Rattle.std.proofs.Common.{◌≡◌, ◌≢◌, ◌<◌, ◌≤◌, ◌+◌, ℕ, suc, Bool, true, false, List, [], ◌∷◌, ◌++◌, length, All, refl, sym, ap, ◌∙◌, subst, arith, if◌then◌else◌}
+use Rattle.std.proofs.lemmas.List.Elements.{All-nil, All-cons, All-head, All-tail}
 use Rattle.scan_model.specs.declared.Outcome.{Outcome}
 use Rattle.scan_model.specs.TokenTests.{same}
-use Rattle.scan_model.proofs.LongestLemmas.{pointwise_same}
 use Rattle.shard_cache.specs.Rows.{AllDiffer}
-use Rattle.turn_lock.specs.Logs.{Fits}
+use Rattle.shard_cache.proofs.PlaceLemmas.{same_itself, same_is}
 use Rattle.cache_desk.specs.declared.entry.Entry.{Entry}
 use Rattle.cache_desk.specs.declared.entry.Event.{Event}
 use Rattle.cache_desk.specs.declared.entry.Event.TheVariants as EventIs
 use Rattle.cache_desk.specs.Log.{Standing, Free, Claimed, Done, claim, publication, maker, left_by, after, standing_from, standing, MayFollow, MayBe, IsLegalFor, IsLegal, HasClaim, claims, claims_and, one, times, without, open_after, open_from, still_open}
-
--- a path is the same as itself
-pub same_itself : (p : List ℕ) → same p p ≡ true
-same_itself [] = refl
-same_itself (x ∷ xs) = let h = same_itself xs in grind arith
-
-pub same_is : (p q : List ℕ) → same p q ≡ true → p ≡ q
-same_is p q e = pointwise_same p q e
 
 -- ## Entries one after the other
 
@@ -70,10 +61,6 @@ done_stays_by w o bs e (EventIs.Published x y) true s is at may = absurd (subst 
 pub done_stays_from : (p : List ℕ) (w : ℕ) (o : Outcome) (bs : List ℕ) (s : Standing) (es : List Entry) → s ≡ Done w o bs → IsLegalFor p s es → standing_from s es p ≡ Done w o bs
 done_stays_from p w o bs s [] is legal = is
 done_stays_from p w o bs s (e ∷ es) is legal = done_stays_from p w o bs (after (same e.path p) s e) es (done_stays_by w o bs e e.event (same e.path p) s is refl legal.0) legal.1
-
--- a publication that was seen stands in every longer log
-pub done_stays : (p : List ℕ) (w : ℕ) (o : Outcome) (bs : List ℕ) (log rest : List Entry) → IsLegal (log ++ rest) → standing log p ≡ Done w o bs → standing (log ++ rest) p ≡ Done w o bs
-done_stays p w o bs log rest legal is = standing_on p Free log rest ∙ done_stays_from p w o bs (standing log p) rest is (legal_on p Free log rest (legal p))
 
 -- ## One entry more
 

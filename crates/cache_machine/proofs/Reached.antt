@@ -30,7 +30,7 @@ module _ (jobs : List Job) (settings : Settings) where
   run_sound (move ∷ moves) m h = run_sound moves (moved jobs settings m move) (moved_sound m move h)
 
   -- at the start every worker is idle
-  idle_fits : (count w : ℕ) → (slice_index_or (replicate count Idle) w Over ≡ Idle) ⊎ (slice_index_or (replicate count Idle) w Over ≡ Over)
+  pub idle_fits : (count w : ℕ) → (slice_index_or (replicate count Idle) w Over ≡ Idle) ⊎ (slice_index_or (replicate count Idle) w Over ≡ Over)
   idle_fits zero w = inr refl
   idle_fits (suc count) zero = inl refl
   idle_fits (suc count) (suc w) = idle_fits count w

@@ -155,7 +155,7 @@ module _ (jobs : List Job) (settings : Settings) where
   published_claim : (w v : ℕ) (content : Content (List ℕ)) → v ≢ w → published_held w content (Claimed v) ≡ Claimed v
   published_claim w v content differ = ap (λ z. if z then Done content else Claimed v) (if_false v w differ)
 
-  published_own : (w : ℕ) (content : Content (List ℕ)) → published_held w content (Claimed w) ≡ Done content
+  pub published_own : (w : ℕ) (content : Content (List ℕ)) → published_held w content (Claimed w) ≡ Done content
   published_own w content = ap (λ z. if z then Done content else Claimed w) (if_true w w refl)
 
   publish_as_sound : (m : Machine) (w n k : ℕ) (content : Content (List ℕ)) (s : Worker) → worker_at m w ≡ Holding n k content → IsSound jobs settings m →

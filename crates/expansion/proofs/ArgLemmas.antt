@@ -12,7 +12,7 @@ use Rattle.scan_model.specs.Parentheses.{depth_after}
 use Rattle.scan_model.specs.Substitution as spec
 use Rattle.scan_model.specs.Expansion.{cut_at_commas, exactly, plain_args, variadic_args}
 use Rattle.substitution.specs.declared.marked.Marked.{Marked}
-use Rattle.substitution.specs.Meaning.{all_marked_of, IsMarked, AreMarked}
+use Rattle.substitution.specs.Meaning.{all_marked_of, IsMarked}
 use Rattle.list_stack.specs.Stacks.{Stack, Cuts, cut_lists}
 use Rattle.list_stack.proofs.MeaningLemmas.{cut_lists-meant, cut_lists-some}
 use Rattle.expansion.specs.Cuts.{filled, AreCut}
@@ -239,18 +239,6 @@ module _ (n : ℕ) (old new : Stack) (count : ℕ) (h : Cuts n old new count) wh
 
   pub variadic-misfit : count < n → (sets : Sets) → variadic_args n (all_marked_of sets old.first) ≡ None
   variadic-misfit lt sets = variadic-none n (all_marked_of sets old.first) (omega (arith, meant_count sets, lt))
-
-pub nothing-cut : (old new : Stack) → old.first ≡ [] → old.others ≡ new.first ∷ new.others → AreCut (plain_args 0) 0 old new 0
-nothing-cut old new none rest = record {
-  args = [];
-  lists = sym rest;
-  count_is = refl;
-  enough = omega arith;
-  nearly = omega arith;
-  size = omega arith;
-  known = λ sets k. All-nil (AreMarked sets);
-  meant = λ sets. ap (λ (ms : List Marked). plain_args 0 (all_marked_of sets ms)) none;
-}
 
 pub nothing-misfit : (list : List Marked) → (list ≡ [] → ⊥) → (sets : Sets) → plain_args 0 (all_marked_of sets list) ≡ None
 nothing-misfit [] h sets = absurd (h refl)

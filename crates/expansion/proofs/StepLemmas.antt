@@ -9,12 +9,12 @@ use Rattle.scan_model.specs.Spelling.{spells}
 use Rattle.scan_model.specs.TokenTests.{is_of}
 use Rattle.scan_model.specs.Substitution as spec
 use Rattle.scan_model.specs.Expansion as expansion
-use Rattle.scan_model.specs.Expansion.{Ran, out, built_in, built_in_out, by_def, defined_out, defined_name, first_and_rest, in_condition, cost_limit}
+use Rattle.scan_model.specs.Expansion.{Ran, out, built_in, built_in_out, by_def, defined_out, defined_name, first_and_rest, in_condition}
 use Rattle.substitution.specs.declared.marked.Marked.{Marked}
 use Rattle.substitution.specs.Meaning.{marked_of, all_marked_of, IsMarked, AreMarked}
 use Rattle.list_stack.specs.Stacks.{Stack}
 use Rattle.expansion.specs.Meaning.{outs}
-use Rattle.std.proofs.lemmas.List.Elements.{All-head, All-tail, All-same}
+use Rattle.std.proofs.lemmas.List.Elements.{All-tail, All-same}
 use Rattle.expansion_laws.specs.Turns.{expands}
 use Rattle.expansion_laws.proofs.TurnLemmas.{expands_first, expands_none}
 use Rattle.expansion.specs.declared.machine.Machine.{Machine}
@@ -70,9 +70,6 @@ module _ (e : expansion.Scope) (m : Machine) (token : Marked) (todo : Stack) (ta
     cost = h.cost;
     counter = h.counter;
   }
-
-  pub IsMarked-taken : IsMachine m → IsMarked m.sets token
-  IsMarked-taken h = All-head (IsMarked m.sets) token todo.first (known h)
 
   pub weight-taken : weight (record m { todo = todo }) + 1 ≡ weight m
   weight-taken =

@@ -3,7 +3,7 @@ use Rattle.std.proofs.Common.{◌≡◌, sym, ◌∙◌, ap, subst, refl, ℕ, �
 use Rattle.std.specs.Prelude.{IfOk, IfSome, Result, Ok, Err, Option, Some, None, is_some}
 use Rattle.std.specs.Option.{option_map}
 use Rattle.std.specs.List.{IsFirstAndRest}
-use Rattle.std.proofs.lemmas.Bool.{le-ltb, false≢true}
+use Rattle.std.proofs.lemmas.Bool.{false≢true}
 use Rattle.scan_model.specs.declared.memory.NoMemory.{NoMemory}
 use Rattle.scan_model.specs.declared.macros.Def.{Def}
 use Rattle.scan_model.specs.declared.token.Kind.TheVariants.{Ident, Number}
@@ -21,6 +21,7 @@ use Rattle.expansion_laws.proofs.TurnLemmas.{expands_first, expands_none, expand
 use Rattle.expansion.specs.declared.straight.Step.{Step}
 use Rattle.expansion.specs.Lists.{digit_of}
 use Rattle.expansion.specs.Straight.{Settles, Settled, answer_after, mark, marks, stays, name_after}
+use Rattle.expansion.proofs.RescanLemmas.{paid-within}
 
 -- ## One token
 
@@ -80,9 +81,6 @@ ok-at e ran ran' rest (Ok step) same h = some-along e (ran e) ran' rest step sam
 ok-at e ran ran' rest (Err error) same h = tt
 
 -- ## A replacement by one token
-
-pub paid-within : (cost : ℕ) (ran : Ran) → cost ≤ cost_limit → paid cost ran ≡ ran
-paid-within cost ran le = rw (le-ltb cost_limit cost le) refl
 
 same-if : (b : Bool) (a : Option spec.Arg) → (if b then a else a) ≡ a
 same-if true a = refl

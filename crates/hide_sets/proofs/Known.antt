@@ -3,13 +3,13 @@ use Rattle.std.proofs.Common.{◌≡◌, ◌∙◌, sym, ap, subst, ℕ, zero, s
 use Rattle.std.specs.List.{All}
 use Rattle.std.specs.Cmp.Lexicographic.{bytes_decides}
 use Rattle.std.proofs.lemmas.List.Elements.{All-nil, All-head, All-tail, All-get_or, All-push, All-weaker}
+use Rattle.std.proofs.lemmas.Bool.{or_left, or_right, or_cases}
 use Rattle.scan_model.specs.TokenTests.{same, is_among}
 use Rattle.scan_model.specs.Expansion.{also}
 use Rattle.scan_model.proofs.LongestLemmas.{pointwise_same}
 use Rattle.hide_sets.specs.declared.table.Node.{Node}
 use Rattle.hide_sets.specs.Sets.{Sets, names_of, has_name, hides_of}
 use Rattle.hide_sets.specs.Nodes.{names_with, sets_from, IsTree, AreKnown}
-use Rattle.hide_sets.proofs.Merging.{or_left, or_right, or_parts}
 
 -- ## A name more
 
@@ -42,7 +42,7 @@ module _ (known : List (List ℕ)) where
   set_known sets (suc k) all = at_or sets k all
 
   one_more : (first : List ℕ) (rest : List (List ℕ)) → is_among known first ≡ true → HasKnown rest → HasKnown (first ∷ rest)
-  one_more first rest is all name h = ⊎_elim (all name) (λ e. subst (λ n. is_among known n ≡ true) (pointwise_same first name e) is) (or_parts (has_name rest name) (same first name) h)
+  one_more first rest is all name h = ⊎_elim (all name) (λ e. subst (λ n. is_among known n ≡ true) (pointwise_same first name e) is) (or_cases (has_name rest name) (same first name) h)
 
   sets_known : (names : List (List ℕ)) (sets : Sets) (nodes : List Node) → AreKnown known names → ((k : ℕ) (d : Node) → k < length nodes → (get_or nodes k d).name < length names) → All HasKnown sets → All HasKnown (sets_from names sets nodes)
   sets_known names sets [] are named all = all

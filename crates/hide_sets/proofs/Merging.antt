@@ -1,6 +1,6 @@
 -- Two sets merged by walking through the names of one, the latest first.
-use Rattle.std.proofs.Common.{◌≡◌, sym, ◌∙◌, ap, refl, ℕ, Bool, true, false, ◌||◌, ◌&&◌, List, ◌⊎◌, inl, inr, ⊎_elim}
-use Rattle.std.proofs.lemmas.Bool.{false≢true}
+use Rattle.std.proofs.Common.{◌≡◌, sym, ◌∙◌, ap, refl, ℕ, Bool, true, false, ◌||◌, ◌&&◌, List, ◌⊎◌, ⊎_elim}
+use Rattle.std.proofs.lemmas.Bool.{false≢true, or_left, or_right, and_from, or_cases}
 use std.Path.{fun_ext}
 use Rattle.scan_model.specs.TokenTests.{same}
 use Rattle.scan_model.specs.Expansion.{also}
@@ -13,31 +13,9 @@ or_true : (b : Bool) → (b || true) ≡ true
 or_true true = refl
 or_true false = refl
 
-pub or_parts : (b c : Bool) → (b || c) ≡ true → (b ≡ true) ⊎ (c ≡ true)
-or_parts true c h = inl refl
-or_parts false c h = inr h
-
-and_first : (b c : Bool) → (b && c) ≡ true → b ≡ true
-and_first true c h = refl
-and_first false c h = h
-
 and_second : (b c : Bool) → (b && c) ≡ true → c ≡ true
 and_second true c h = h
 and_second false c h = cc
-
-and_both : (b c : Bool) → b ≡ true → c ≡ true → (b && c) ≡ true
-and_both b c h k = cc
-
-pub or_left : (b c : Bool) → b ≡ true → (b || c) ≡ true
-or_left b c h = cc
-
-pub or_right : (b c : Bool) → c ≡ true → (b || c) ≡ true
-or_right b c h = ap (λ d. b || d) h ∙ or_true b
-
-same_test : (b c : Bool) → (b ≡ true → c ≡ true) → (c ≡ true → b ≡ true) → b ≡ c
-same_test true c f g = sym (f refl)
-same_test false true f g = g refl
-same_test false false f g = refl
 
 at_same : (names : Names) (s name : List ℕ) → same s name ≡ true → names name ≡ true → names s ≡ true
 at_same names s name e h = ap names (pointwise_same s name e) ∙ h
@@ -47,7 +25,7 @@ to_same names s name e h = ap names (sym (pointwise_same s name e)) ∙ h
 
 -- a set that is one name more
 also_has : (whole rest : Names) (s name : List ℕ) → whole ≡ also s rest → whole name ≡ true → (rest name ≡ true) ⊎ (same s name ≡ true)
-also_has whole rest s name e h = or_parts (rest name) (same s name) (sym (ap (λ (f : Names). f name) e) ∙ h)
+also_has whole rest s name e h = or_cases (rest name) (same s name) (sym (ap (λ (f : Names). f name) e) ∙ h)
 
 also_keeps : (whole rest : Names) (s name : List ℕ) → whole ≡ also s rest → rest name ≡ true → whole name ≡ true
 also_keeps whole rest s name e h = ap (λ (f : Names). f name) e ∙ or_left (rest name) (same s name) h
@@ -65,20 +43,6 @@ pub record Uniting (a b made left right : Names) : Type 0 where
   pub within : (name : List ℕ) → made name ≡ true → (a name || b name) ≡ true
   pub rest : (name : List ℕ) → b name ≡ true → (made name || right name) ≡ true
 
-pub uniting-start : (a b : Names) → Uniting a b a a b
-uniting-start a b =
-    record {
-      left_in = λ name h. h;
-      first_in = λ name h. h;
-      right_in = λ name h. h;
-      within = λ name h. or_left (a name) (b name) h;
-      rest = λ name h. or_right (a name) (b name) h;
-    }
-
-pub uniting-left : (a b made left left' right : Names) (s : List ℕ) → left ≡ also s left' → Uniting a b made left right → Uniting a b made left' right
-uniting-left a b made left left' right s e u =
-    record { left_in = λ name h. u.left_in name (also_keeps left left' s name e h); first_in = u.first_in; right_in = u.right_in; within = u.within; rest = u.rest }
-
 pub uniting-added : (a b made made' left right right' : Names) (s : List ℕ) → right ≡ also s right' → made' ≡ also s made → Uniting a b made left right → Uniting a b made' left right'
 uniting-added a b made made' left right right' s e m u =
     record {
@@ -89,7 +53,7 @@ uniting-added a b made made' left right right' s e m u =
       rest = λ name h. ⊎_elim
           (λ k. or_left (made' name) (right' name) (also_keeps made' made s name m k))
           (λ k. ⊎_elim (or_right (made' name) (right' name)) (λ l. or_left (made' name) (right' name) (also_adds made' made s name m l)) (also_has right right' s name e k))
-          (or_parts (made name) (right name) (u.rest name h));
+          (or_cases (made name) (right name) (u.rest name h));
     }
 
 pub uniting-skipped : (a b made left right right' : Names) (s : List ℕ) → right ≡ also s right' → true ≡ a s → Uniting a b made left right → Uniting a b made left right'
@@ -102,15 +66,8 @@ uniting-skipped a b made left right right' s e p u =
       rest = λ name h. ⊎_elim
           (or_left (made name) (right' name))
           (λ k. ⊎_elim (or_right (made name) (right' name)) (λ l. or_left (made name) (right' name) (u.first_in name (to_same a s name l (sym p)))) (also_has right right' s name e k))
-          (or_parts (made name) (right name) (u.rest name h));
+          (or_cases (made name) (right name) (u.rest name h));
     }
-
--- where the rest of one is the rest of the other
-pub uniting-end : (a b made left right : Names) → left ≡ right → Uniting a b made left right → made ≡ (λ name. a name || b name)
-uniting-end a b made left right e u = fun_ext (λ name.
-    same_test (made name) (a name || b name) (u.within name) (λ h. ⊎_elim (u.first_in name)
-    (λ k. ⊎_elim (λ l. l) (λ l. u.first_in name (u.left_in name (ap (λ (f : Names). f name) e ∙ l))) (or_parts (made name) (right name) (u.rest name k)))
-    (or_parts (a name) (b name) h)))
 
 -- ## The common part
 
@@ -125,31 +82,16 @@ pub record Meeting (a b made shared at : Names) : Type 0 where
 pub record Within (part whole : Names) : Type 0 where
   pub has : (name : List ℕ) → part name ≡ true → whole name ≡ true
 
-pub within-itself : (a : Names) → Within a a
-within-itself a = record { has = λ name h. h }
-
-pub within-rest : (part rest whole : Names) (s : List ℕ) → part ≡ also s rest → Within part whole → Within rest whole
-within-rest part rest whole s e w = record { has = λ name h. w.has name (also_keeps part rest s name e h) }
-
-pub meeting-start : (a b shared : Names) → Within shared a → Within shared b → Meeting a b shared shared a
-meeting-start a b shared p q =
-    record {
-      at_in = λ name h. h;
-      shared_in = λ name h. h;
-      within = λ name h. and_both (a name) (b name) (p.has name h) (q.has name h);
-      rest = λ name h. or_right (shared name) (a name) (and_first (a name) (b name) h);
-    }
-
 pub meeting-added : (a b made made' shared at at' : Names) (s : List ℕ) → at ≡ also s at' → made' ≡ also s made → true ≡ b s → Meeting a b made shared at → Meeting a b made' shared at'
 meeting-added a b made made' shared at at' s e m p u =
     record {
       at_in = λ name h. u.at_in name (also_keeps at at' s name e h);
       shared_in = λ name h. also_keeps made' made s name m (u.shared_in name h);
-      within = λ name h. ⊎_elim (u.within name) (λ k. and_both (a name) (b name) (u.at_in name (also_adds at at' s name e k)) (to_same b s name k (sym p))) (also_has made' made s name m h);
+      within = λ name h. ⊎_elim (u.within name) (λ k. and_from (a name) (b name) (u.at_in name (also_adds at at' s name e k)) (to_same b s name k (sym p))) (also_has made' made s name m h);
       rest = λ name h. ⊎_elim
           (λ k. or_left (made' name) (at' name) (also_keeps made' made s name m k))
           (λ k. ⊎_elim (or_right (made' name) (at' name)) (λ l. or_left (made' name) (at' name) (also_adds made' made s name m l)) (also_has at at' s name e k))
-          (or_parts (made name) (at name) (u.rest name h));
+          (or_cases (made name) (at name) (u.rest name h));
     }
 
 pub meeting-skipped : (a b made shared at at' : Names) (s : List ℕ) → at ≡ also s at' → false ≡ b s → Meeting a b made shared at → Meeting a b made shared at'
@@ -161,10 +103,5 @@ meeting-skipped a b made shared at at' s e p u =
       rest = λ name h. ⊎_elim
           (or_left (made name) (at' name))
           (λ k. ⊎_elim (or_right (made name) (at' name)) (λ l. absurd (false≢true (p ∙ at_same b s name l (and_second (a name) (b name) h)))) (also_has at at' s name e k))
-          (or_parts (made name) (at name) (u.rest name h));
+          (or_cases (made name) (at name) (u.rest name h));
     }
-
--- where the walk has come to what they share, or to the end
-pub meeting-end : (a b made shared at : Names) → ((name : List ℕ) → at name ≡ true → shared name ≡ true) → Meeting a b made shared at → made ≡ (λ name. a name && b name)
-meeting-end a b made shared at e u = fun_ext (λ name.
-    same_test (made name) (a name && b name) (u.within name) (λ h. ⊎_elim (λ l. l) (λ l. u.shared_in name (e name l)) (or_parts (made name) (at name) (u.rest name h))))

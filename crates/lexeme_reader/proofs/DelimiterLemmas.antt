@@ -13,7 +13,7 @@ use Rattle.lexeme_reader.specs.Raws.{in_delimiter, IsDelimiter}
 abbrev pub is_before : ℕ → Bool
 is_before c = not (c == 40)
 
-all_from : (p : ℕ → Bool) (xs : List ℕ) → ((k : ℕ) → k < length xs → p (get_or xs k 0) ≡ true) → list_all p xs ≡ true
+pub all_from : (p : ℕ → Bool) (xs : List ℕ) → ((k : ℕ) → k < length xs → p (get_or xs k 0) ≡ true) → list_all p xs ≡ true
 all_from p [] h = refl
 all_from p (x ∷ xs) h = and_from (p x) (list_all p xs) (h zero (omega arith)) (all_from p xs (λ k lt. h (suc k) (omega arith)))
 

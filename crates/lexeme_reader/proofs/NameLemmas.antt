@@ -11,7 +11,7 @@ use Rattle.lexeme_reader.specs.Fronts.{line}
 use Rattle.lexeme_reader.specs.Passes.{Passes}
 use Rattle.lexeme_reader.specs.Names.{PassesName}
 use Rattle.lexeme_reader.proofs.TextLemmas.{EndsAt}
-use Rattle.lexeme_reader.proofs.PassLemmas.{passes_none, passes_one, passes_more, passes_longest, passes_longest_whole, longest_positive, list_all-append, first_begins, same_character}
+use Rattle.lexeme_reader.proofs.PassLemmas.{passes_none, passes_one, passes_more, passes_longest, passes_longest_whole, longest_positive, first_begins, same_character}
 
 -- a newline neither starts a name nor goes on with one
 pub continue_line : (c : ℕ) → is_continue c ≡ true → (c == 10) ≡ false
@@ -23,13 +23,6 @@ unfolding is_start
 start_line c h = ne_eqb c 10 (λ e. let z : false ≡ true = ap is_start (sym e) ∙ h in cc)
 
 -- ## The characters that go on
-
-pub name_more : (a b d : List Spot) (cs : List ℕ) (c : ℕ) → list_all is_continue cs ≡ true → Passes cs a b → BeginsWith c (bytes b) → is_continue c ≡ true → d ≡ drop (length (encode_utf8 c)) b
-    → (list_all is_continue (cs ++ c ∷ []) ≡ true) × Passes (cs ++ c ∷ []) a d
-name_more a b d cs c goes passes begins continues e = (
-  list_all-append is_continue cs (c ∷ []) goes (and_from (is_continue c) true continues refl),
-  passes_more cs (c ∷ []) a b d passes (passes_one c b d begins (continue_line c continues) e),
-)
 
 -- where another character stands
 pub ends_here : (t : List ℕ) (c : ℕ) → BeginsWith c t → (p : ℕ → Bool) → p c ≡ false → (d : ℕ) → BeginsWith d t → p d ≡ false

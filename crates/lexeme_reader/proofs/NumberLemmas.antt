@@ -6,7 +6,7 @@ use Rattle.std.proofs.lemmas.List.{append_assoc}
 use Rattle.std.specs.Char.{encode_utf8, is_ascii_digit, is_ascii_alphanumeric}
 use Rattle.std.specs.Str.{encode_utf8_all, all_scalars}
 use Rattle.scan_model.specs.Spliced.{Spot}
-use Rattle.scan_model.specs.Spelling.{first, is_continue, is_number, are_number, goes_on, go_on, is_exponent, longest}
+use Rattle.scan_model.specs.Spelling.{first, is_continue, is_number, are_number, goes_on, go_on, longest}
 use Rattle.scan_model.specs.Tokens.{bytes}
 use Rattle.lexeme_reader.specs.Character.{BeginsWith, NoCharacter}
 use Rattle.lexeme_reader.specs.Fronts.{line}
@@ -38,16 +38,6 @@ pub digit_continues : (c : ℕ) → is_ascii_digit c ≡ true → is_continue c 
 digit_continues c h = separated_continues c (or_left (is_ascii_alphanumeric c) (c == 95) (digit_alphanumeric c h))
 
 -- ## What goes on
-
-or_false : (a b c : Bool) → (a || b || false || c) ≡ (a || b || c)
-or_false true b c = refl
-or_false false true c = refl
-or_false false false c = refl
-
--- at the end of a number
-pub goes_on-end : (b c : ℕ) → goes_on b c 0 ≡ (is_continue c || c == 46 || ((c == 43 || c == 45) && is_exponent b))
-goes_on-end b c = ap (λ x. is_continue c || c == 46 || x || ((c == 43 || c == 45) && is_exponent b)) (and_right (c == 39) false refl)
-    ∙ or_false (is_continue c) (c == 46) ((c == 43 || c == 45) && is_exponent b)
 
 -- but for `'`, what follows is of no account
 goes_on-other : (b c d : ℕ) → (c == 39) ≡ false → goes_on b c d ≡ goes_on b c 0
@@ -163,9 +153,6 @@ pub stops_here : (before c : ℕ) (t : List ℕ) → BeginsWith c t → (c == 39
 stops_here before c t begins other stops e es v scalar there =
     let same : e ≡ c = same_character t e c (first_begins e es v t scalar there) begins in
     and_left (goes_on before e (first es)) (go_on e es) (ap (λ x. goes_on before x (first es)) same ∙ goes_on-other before c (first es) other ∙ stops)
-
-pub stops_none : (before : ℕ) (t : List ℕ) → NoCharacter t → StopsNumber before t
-stops_none before t none e es v scalar there = absurd (none e (first_begins e es v t scalar there))
 
 -- the second of the characters that stand here
 pub second_begins : (e f : ℕ) (es v : List ℕ) (a : List Spot) → all_scalars (e ∷ f ∷ es) ≡ true → bytes a ≡ encode_utf8 e ++ (encode_utf8_all (f ∷ es) ++ v) → BeginsWith f (bytes (drop (length (encode_utf8 e)) a))

@@ -57,7 +57,7 @@ encoding_len-le (a ∷ b ∷ s) = rw (encoding_len-bytes (a ∷ b ∷ s)) (two_a
   two_at_most false false n = omega arith
 
 -- a front that is longer than the prefix has the same one
-encoding_len-take : (s : List ℕ) (m : ℕ) → encoding_len s < m → encoding_len (take m s) ≡ encoding_len s
+pub encoding_len-take : (s : List ℕ) (m : ℕ) → encoding_len s < m → encoding_len (take m s) ≡ encoding_len s
 encoding_len-take s zero h = absurd (omega (arith, h))
 encoding_len-take [] (suc m) h = refl
 encoding_len-take (a ∷ []) (suc m) h = ap (λ t. encoding_len (a ∷ t)) (nothing m) where

@@ -27,10 +27,6 @@ pub byte_at-none : (s : List Spot) → byte_at s ≡ None → s ≡ []
 byte_at-none [] e = refl
 byte_at-none (x ∷ s) e = cc
 
-pub byte_at-some : (s : List Spot) (c : ℕ) → byte_at s ≡ Some c → s ≢ []
-byte_at-some [] c e = cc
-byte_at-some (x ∷ s) c e = λ z. cc
-
 pub bytes-take : (s : List Spot) (n : ℕ) → take n (bytes s) ≡ bytes (take n s)
 bytes-take s n = take-map (λ spot. spot.byte) n s
 

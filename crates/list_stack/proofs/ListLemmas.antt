@@ -1,7 +1,7 @@
 -- Lists of tokens with their hide sets, put together and taken apart.
 use Rattle.std.proofs.Common.{◌≡◌, sym, ◌∙◌, ap, subst, refl, ℕ, ◌≤◌, Bool, ◌||◌, List, [], ◌∷◌, ◌++◌, map, length, append_assoc}
 use Rattle.std.specs.Prelude.{Some}
-use Rattle.std.proofs.lemmas.List.{append-nil, map-append}
+use Rattle.std.proofs.lemmas.List.{map-append}
 use Rattle.std.proofs.lemmas.List.Elements.{All-nil, All-cons, All-append, All-pop}
 use Rattle.hide_sets.specs.Sets.{Sets, IsSet, hides_of, Extends, Makes}
 use Rattle.hide_sets.proofs.Growing.{Extends-itself, Extends-on, hides_of-Extends}
@@ -69,10 +69,6 @@ putting-next sets sets' sets'' added set list old rest rest' now now' m e n a ma
           ∙ p.whole;
     }
 
-pub putting-end : (sets sets' : Sets) (added : ℕ) (list old rest now : List Marked) → rest ≡ [] → Putting sets sets' added list old rest now → PutsBefore sets sets' (hides_of sets added) list old now
-putting-end sets sets' added list old rest now e p =
-    record { known = p.known; meant = ap (λ (x : List Marked). map (hidden_by (hides_of sets added)) (all_marked_of sets x) ++ all_marked_of sets' now) (sym e) ∙ p.whole }
-
 -- ## The same on top of a stack's entries
 
 pub record Topping (sets sets' : Sets) (added : ℕ) (list rest : List Marked) (old now : List Entry) : Type 0 where
@@ -99,16 +95,6 @@ topping-next sets sets' sets'' added set list rest rest' old now now' m e adds l
   adds = Adds-on old now now' t.front (record m { hides = set }) adds t.adds;
   put = putting-next sets sets' sets'' added set list [] rest rest' t.front (record m { hides = set } ∷ t.front) m e refl a made t.put;
 }
-
-pub topping-end : (sets sets' : Sets) (added : ℕ) (list rest : List Marked) (old now : List Entry) → rest ≡ [] → Topping sets sets' added list rest old now → AddsHidden sets sets' (hides_of sets added) list old now
-topping-end sets sets' added list rest old now e t =
-    let puts = putting-end sets sets' added list [] rest t.front e t.put in
-    record {
-      front = t.front;
-      adds = t.adds;
-      known = puts.known;
-      meant = puts.meant ∙ append-nil (map (hidden_by (hides_of sets added)) (all_marked_of sets list));
-    }
 
 pub puts-before : (sets sets' : Sets) (added : List ℕ → Bool) (list : List Marked) (old new : List Entry) (from : ℕ) → from ≤ length old → Extends sets sets' → AreMarked sets (part from (length old) old) → AddsHidden sets sets' added list old new →
     PutsBefore sets sets' added list (part from (length old) old) (part from (length new) new)

@@ -1,16 +1,13 @@
 -- Opened and cut lists have the tokens that were there, and as many.
-use Rattle.std.proofs.Common.{◌≡◌, ap, subst, refl, ℕ, zero, suc, ◌+◌, Bool, true, false, ◌&&◌, ◌==◌, if◌then◌else◌, List, [], ◌∷◌, ◌++◌, length, All, arith}
-use Rattle.std.specs.Prelude.{Option, Some, None, sum_by}
+use Rattle.std.proofs.Common.{◌≡◌, ap, subst, refl, ℕ, ◌+◌, Bool, true, false, ◌&&◌, ◌==◌, if◌then◌else◌, List, [], ◌∷◌, ◌++◌}
+use Rattle.std.specs.Prelude.{Option, Some, None}
 use Rattle.std.specs.Option.{option_map}
-use Rattle.std.specs.List.{onto_first}
-use Rattle.std.proofs.lemmas.List.Sums.{sum_by-cons}
 use Rattle.std.proofs.lemmas.List.Elements.{All-nil, All-cons, All-head, All-tail}
 use Rattle.hide_sets.specs.Sets.{Sets}
-use Rattle.scan_model.specs.TokenTests.{is_comma, is_open_paren, is_close_paren}
+use Rattle.scan_model.specs.TokenTests.{is_open_paren, is_close_paren}
 use Rattle.scan_model.specs.Parentheses.{Enclosed, onto_inside, enclosed, in_parens, depth_after}
 use Rattle.substitution.specs.declared.marked.Marked.{Marked}
 use Rattle.substitution.specs.Meaning.{IsMarked, AreMarked}
-use Rattle.list_stack.specs.Stacks.{cut_lists}
 
 -- ## Parentheses
 
@@ -67,43 +64,3 @@ in_parens-known sets ms e h k =
     known-parts sets e.inside e.close e.after (All-tail (IsMarked sets) p.open_paren (e.inside ++ e.close ∷ e.after) (subst (AreMarked sets) p.parts k))
 
 -- ## Lists cut at commas
-
-known-if : (sets : Sets) (b : Bool) (x y : List (List Marked)) → All (AreMarked sets) x → All (AreMarked sets) y → All (AreMarked sets) (if b then x else y)
-known-if sets true x y h k = h
-known-if sets false x y h k = k
-
-known-onto : (sets : Sets) (m : Marked) (lists : List (List Marked)) → IsMarked sets m → All (AreMarked sets) lists → All (AreMarked sets) (onto_first m lists)
-known-onto sets m [] h k = All-cons (AreMarked sets) (m ∷ []) [] (All-cons (IsMarked sets) m [] h (All-nil (IsMarked sets))) k
-known-onto sets m (list ∷ lists) h k =
-    All-cons (AreMarked sets) (m ∷ list) lists (All-cons (IsMarked sets) m list h (All-head (AreMarked sets) list lists k)) (All-tail (AreMarked sets) list lists k)
-
-pub cut_lists-known : (sets : Sets) (k depth : ℕ) (ms : List Marked) → AreMarked sets ms → All (AreMarked sets) (cut_lists k depth ms)
-cut_lists-known sets k depth [] h = All-cons (AreMarked sets) [] [] h (All-nil (AreMarked sets))
-cut_lists-known sets zero depth (m ∷ ms) h = All-cons (AreMarked sets) (m ∷ ms) [] h (All-nil (AreMarked sets))
-cut_lists-known sets (suc k) depth (m ∷ ms) h =
-    known-if sets (depth == 0 && is_comma m.tok) ([] ∷ cut_lists k depth ms) (onto_first m (cut_lists (suc k) (depth_after m.tok depth) ms))
-    (All-cons (AreMarked sets) [] (cut_lists k depth ms) (All-nil (IsMarked sets)) (cut_lists-known sets k depth ms (All-tail (IsMarked sets) m ms h)))
-    (known-onto sets m (cut_lists (suc k) (depth_after m.tok depth) ms) (All-head (IsMarked sets) m ms h) (cut_lists-known sets (suc k) (depth_after m.tok depth) ms (All-tail (IsMarked sets) m ms h)))
-
--- the tokens of all the lists, and one for each list
-abbrev pub size : List (List Marked) → ℕ
-size lists = sum_by (λ list. 1 + length list) lists
-
-size-cons : (list : List Marked) (lists : List (List Marked)) → size (list ∷ lists) ≡ 1 + length list + size lists
-size-cons list lists = sum_by-cons (λ (list : List Marked). 1 + length list) list lists
-
-size-onto : (m : Marked) (lists : List (List Marked)) (n : ℕ) → size lists ≡ suc n → size (onto_first m lists) ≡ suc (suc n)
-size-onto m [] n h = absurd (omega arith)
-size-onto m (list ∷ lists) n h = omega (arith, size-cons list lists, size-cons (m ∷ list) lists)
-
-size-if : (b : Bool) (x y : List (List Marked)) (n : ℕ) → size x ≡ n → size y ≡ n → size (if b then x else y) ≡ n
-size-if true x y n h k = h
-size-if false x y n h k = k
-
-pub cut_lists-size : (k depth : ℕ) (ms : List Marked) → size (cut_lists k depth ms) ≡ suc (length ms)
-cut_lists-size k depth [] = size-cons [] []
-cut_lists-size zero depth (m ∷ ms) = omega (arith, size-cons (m ∷ ms) [])
-cut_lists-size (suc k) depth (m ∷ ms) =
-    size-if (depth == 0 && is_comma m.tok) ([] ∷ cut_lists k depth ms) (onto_first m (cut_lists (suc k) (depth_after m.tok depth) ms)) (suc (suc (length ms)))
-    (omega (arith, size-cons [] (cut_lists k depth ms), cut_lists-size k depth ms))
-    (size-onto m (cut_lists (suc k) (depth_after m.tok depth) ms) (length ms) (cut_lists-size (suc k) (depth_after m.tok depth) ms))

@@ -11,7 +11,7 @@ use Rattle.list_stack.specs.declared.entry.Places.{Places}
 use Rattle.list_stack.specs.Places.{places_of, found_at, is_stop, part, Closes, ClosesAt, CommaAt, HasComma, CutsAt, AreEnds, parts_above, lowest}
 use Rattle.list_stack.specs.Stacks.{cut_lists}
 use Rattle.list_stack.proofs.PartLemmas.{enclosed-parts}
-use Rattle.list_stack.proofs.FoundLemmas.{choose-then, choose-else, found-past, found-never, found-less, found-in, found-behind, found-enclosed, prefix, prefix-nil, prefix-prefix, Stops, stops, whole-unstopped, whole-none, Same, same-split}
+use Rattle.list_stack.proofs.FoundLemmas.{choose-then, found-past, found-never, found-less, found-in, found-behind, found-enclosed, prefix, prefix-nil, prefix-prefix, Stops, stops, whole-unstopped, whole-none, Same, same-split}
 use Rattle.list_stack.proofs.EntryLemmas.{length-part, part-split, part-at, part-to, part-empty, part-head, parts_above-push, lowest-push, AreEnds-push}
 
 -- ## Places between two
@@ -106,9 +106,6 @@ module _ (from top : ℕ) (es : List Entry) (within : from ≤ top) (below : top
 module _ (from top : ℕ) (es : List Entry) (d : Entry) (within : from ≤ top) (last : length es ≡ top + 1) where
   first-token : part from (length es) es ≡ (get_or es top d).marked ∷ part from top es
   first-token = ap (λ (n : ℕ). part from n es) last ∙ part-head from top es d within (omega arith)
-
-  pub closes-other : is_open_paren (get_or es top d).marked.tok ≡ false → Closes from es None
-  closes-other h = ap (in_parens (λ m. m.tok)) first-token ∙ choose-else (is_open_paren (get_or es top d).marked.tok) _ _ h
 
   opened : is_open_paren (get_or es top d).marked.tok ≡ true → in_parens (λ m. m.tok) (part from (length es) es) ≡ enclosed (λ m. m.tok) 0 (part from top es)
   opened h = ap (in_parens (λ m. m.tok)) first-token ∙ choose-then (is_open_paren (get_or es top d).marked.tok) _ _ h
@@ -208,18 +205,6 @@ pub record Cutting (most from : ℕ) (es : List Entry) (places : List ℕ) (at :
   pub lists : cut_lists most 0 (part from (length es) es) ≡ parts_above es (length es) places ++ cut_lists (most - length places) 0 (part from at es)
 
 module _ (most from : ℕ) (es : List Entry) where
-  pub cutting-start : (places : List ℕ) (at : ℕ) → places ≡ [] → at ≡ length es → from ≤ length es → Cutting most from es places at
-  cutting-start places at p a l = subst (λ (ps : List ℕ). Cutting most from es ps at) (sym p) (subst (Cutting most from es []) (sym a) (record {
-    few = omega arith;
-    fall = tt;
-    at_is = refl;
-    within = l;
-    lists = ap (λ (k : ℕ). cut_lists k 0 (part from (length es) es)) (minus-none most);
-  }))
-    where
-      minus-none : (n : ℕ) → n ≡ n - length {A = ℕ} []
-      minus-none n = omega arith
-
   pub cutting-next : (places places' : List ℕ) (at comma : ℕ) → places' ≡ places ++ comma ∷ [] → length places < most → CommaAt from at es comma → Cutting most from es places at → Cutting most from es places' comma
   cutting-next places places' at comma p l c h = subst (λ (ps : List ℕ). Cutting most from es ps comma) (sym p) (
       let more = length-append places (comma ∷ []) in
@@ -244,9 +229,6 @@ module _ (most from : ℕ) (es : List Entry) where
     lists = h.lists ∙ ap (λ (lists : List (List Marked)). parts_above es (length es) places ++ lists) e
         ∙ ap (λ (n : ℕ). parts_above es (length es) places ++ part from n es ∷ []) h.at_is;
   }
-
-  pub cutting-end : (places : List ℕ) (at : ℕ) → HasComma from at es None → Cutting most from es places at → CutsAt most from es places
-  cutting-end places at n h = ended places at h (n (most - length places))
 
   pub cutting-full : (places : List ℕ) (at : ℕ) → most ≤ length places → Cutting most from es places at → CutsAt most from es places
   cutting-full places at l h =

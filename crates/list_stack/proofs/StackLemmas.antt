@@ -1,5 +1,5 @@
 -- What the operations on a stack's memory do to the lists that it holds.
-use Rattle.std.proofs.Common.{◌≡◌, sym, ◌∙◌, ap, subst, refl, ℕ, zero, suc, ◌+◌, ◌-◌, ◌<◌, ◌≤◌, List, [], ◌∷◌, ◌++◌, length, take, drop, get_or, append_assoc, length-append, arith}
+use Rattle.std.proofs.Common.{◌≡◌, sym, ◌∙◌, ap, refl, ℕ, zero, suc, ◌+◌, ◌-◌, ◌<◌, ◌≤◌, List, [], ◌∷◌, ◌++◌, length, take, drop, get_or, append_assoc, length-append, arith}
 use Rattle.std.proofs.Common.{inl, inr}
 use Rattle.std.specs.Prelude.{Option, Some, None}
 use Rattle.std.specs.List.{slice_get}
@@ -8,7 +8,7 @@ use Rattle.std.proofs.lemmas.List.{get_or_at, take_more, length-take-le, take_at
 use Rattle.std.proofs.lemmas.Option.{slice_get-get_or, slice_get_within}
 use Rattle.substitution.specs.declared.marked.Marked.{Marked}
 use Rattle.list_stack.specs.declared.entry.Entry.{Entry}
-use Rattle.list_stack.specs.Places.{part, Adds, floor, AreEnds, lists_below, stack_of, AreStack, ClosesAt, CutsAt, parts_above, lowest}
+use Rattle.list_stack.specs.Places.{part, Adds, floor, lists_below, stack_of, AreStack, ClosesAt, CutsAt, parts_above, lowest}
 use Rattle.list_stack.specs.Stacks.{Stack, OpensAt, Cuts}
 use Rattle.list_stack.proofs.EntryLemmas.{length-part, part-at, part-split, part-empty, part-take, AreLinked-take, AreLinked-same, Adds-part, AreEnds-above, AreEnds-append, lists_below-take, lists_below-under, lists-append}
 
@@ -73,12 +73,6 @@ copied-all xs copied c none = c ∙ take_all (length copied) xs (past xs (length
 -- ## Entries taken away
 
 module _ (es : List Entry) (ends : List ℕ) (kept : ℕ) (above : floor ends ≤ kept) (below : kept ≤ length es) (s : AreStack es ends) where
-  pub kept-stack : AreStack (take kept es) ends
-  kept-stack = record {
-    linked = AreLinked-take kept es s.linked;
-    above = AreEnds-above (length es) (length (take kept es)) ends s.above (omega (arith, length-take-le kept es below));
-  }
-
   pub kept-lists : stack_of (take kept es) ends ≡ record { first = part (floor ends) kept es; others = lists_below es ends }
   kept-lists = same-stack _ _ _ _ (ap (λ (n : ℕ). part (floor ends) n (take kept es)) (length-take-le kept es below) ∙ part-take (floor ends) kept kept es (omega arith))
       (lists_below-take kept es ends (AreEnds-above (length es) kept ends s.above above))
@@ -100,12 +94,6 @@ ended-lists es end ends s =
     let first = ap (λ (n : ℕ). part (floor ends) n (take end es)) (length-take-le end es (omega (arith, s.above.0))) ∙ part-take (floor ends) end end es (omega arith) in
     let others = lists_below-take end es ends s.above.1 in
     ap (λ (list : List Marked). list ∷ lists_below es ends) (sym first) ∙ ap (λ (lists : List (List Marked)). part (floor ends) (length (take end es)) (take end es) ∷ lists) (sym others)
-
-pub ended-stack : (es : List Entry) (end : ℕ) (ends : List ℕ) → AreStack es (end ∷ ends) → AreStack (take end es) ends
-ended-stack es end ends s = record {
-  linked = AreLinked-take end es s.linked;
-  above = subst (λ (n : ℕ). AreEnds n ends) (sym (length-take-le end es (omega (arith, s.above.0)))) s.above.1;
-}
 
 -- ## Parentheses
 

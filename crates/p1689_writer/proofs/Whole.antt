@@ -1,6 +1,7 @@
 -- The document has no float, so its text is that of its value.
-use Rattle.std.proofs.Common.{◌≡◌, ℕ, List, [], ◌∷◌, ◌++◌, Bool, true, false, ◌||◌, map, Option, Some, None, codes, refl, ap, ◌∙◌, subst}
+use Rattle.std.proofs.Common.{◌≡◌, ℕ, List, [], ◌∷◌, ◌++◌, false, ◌||◌, map, Option, Some, None, codes, refl, ap, ◌∙◌, subst}
 use Rattle.std.specs.List.{filter_map}
+use Rattle.std.proofs.lemmas.Bool.{or_from}
 use Rattle.json.specs.Lex.{tokens}
 use Rattle.json.specs.Layout.{pretty}
 use Rattle.serde_json.specs.Data.{Data, Members, no_members}
@@ -12,13 +13,9 @@ use Rattle.scan_model.specs.declared.unit_end.Record.{Record}
 use Rattle.scan_model.specs.declared.unit_end.UnitEnd.{UnitEnd}
 use Rattle.p1689_writer.specs.Document.{provided_entries, required_entry, list_member, rule_of, record_of, document_data, document}
 
-both_false : (a b : Bool) → a ≡ false → b ≡ false → (a || b) ≡ false
-both_false true b h k = h
-both_false false b h k = k
-
 list_whole : (key : List ℕ) (ds : List Data) (later : Members) → items_have_float (items_of ds) ≡ false → members_have_float later ≡ false → members_have_float (list_member key ds later) ≡ false
 list_whole key [] later h k = k
-list_whole key (d ∷ ds) later h k = both_false _ _ h k
+list_whole key (d ∷ ds) later h k = or_from _ _ h k
 
 provided_whole : (source : List ℕ) (provides : Option Provided) → items_have_float (items_of (provided_entries source provides)) ≡ false
 provided_whole source None = refl
@@ -36,10 +33,10 @@ rule_whole r =
 
 rules_whole : (rs : List Record) → items_have_float (items_of (map rule_of rs)) ≡ false
 rules_whole [] = refl
-rules_whole (r ∷ rs) = both_false _ _ (rule_whole r) (rules_whole rs)
+rules_whole (r ∷ rs) = or_from _ _ (rule_whole r) (rules_whole rs)
 
 document_whole : (es : List UnitEnd) → has_float (document_data es) ≡ false
-document_whole es = both_false _ _ (rules_whole (filter_map record_of es)) refl
+document_whole es = or_from _ _ (rules_whole (filter_map record_of es)) refl
 
 -- a pretty text of the document's value, and a newline
 pub document_text : (es : List UnitEnd) (text : List ℕ) (d : Data) → d ≡ document_data es → text ≡ pretty (tokens text) → IsInOrder text d → text ++ 10 ∷ [] ≡ document es

@@ -1,6 +1,6 @@
 -- The longest front that is a token is the longest of one class, which the first bytes tell.
-use Rattle.std.proofs.Common.{◌≡◌, ℕ, zero, suc, ◌<◌, ◌≤◌, Bool, true, false, not, cond, ◌==◌, ◌&&◌, ◌||◌, nat_le, List, [], ◌∷◌, refl, ap, sym, ◌∙◌, inl, inr, take, length, length-take, slice_index, arith}
-use Rattle.std.proofs.lemmas.Bool.{and_parts, and_from, and_left, or_cases, or_left, or_right, or_from, eqb-true, leb-true, not_from_true, not-true, agree_below_at, false_from_ne_true, true≢false}
+use Rattle.std.proofs.Common.{◌≡◌, ℕ, zero, suc, ◌<◌, ◌≤◌, Bool, true, false, not, cond, ◌==◌, ◌&&◌, ◌||◌, List, [], ◌∷◌, refl, ap, sym, ◌∙◌, inl, inr, take, length, length-take, slice_index, arith}
+use Rattle.std.proofs.lemmas.Bool.{and_parts, and_from, and_left, or_cases, or_left, or_right, or_from, eqb-true, not_from_true, not-true, agree_below_at, false_from_ne_true, true≢false}
 use Rattle.std.specs.Char.{is_ascii_digit}
 use Rattle.scan_model.specs.declared.token.Kind.{Kind}
 use Rattle.scan_model.specs.declared.token.Kind.TheVariants.{Ident, Number, Punct}
@@ -8,7 +8,7 @@ use Rattle.scan_model.specs.Spelling.{first, is_start, is_name, is_alternative, 
 use Rattle.scan_model.specs.Tokens.{is_token, kind_of}
 use Rattle.scan_model.proofs.Computing.{reading}
 use Rattle.scan_model.proofs.LongestLemmas.{longest_is, longest_le, longest_passes, longest_beyond}
-use Rattle.pp_lexer.proofs.ClassLemmas.{begins_word, name_first, begins_digits, number_first, alternative_name, mark_first, mark_digits}
+use Rattle.pp_lexer.proofs.ClassLemmas.{begins_word, name_first, begins_digits, number_first, alternative_name, mark_first, mark_digits, digit_small}
 use Rattle.pp_lexer.proofs.OpeningLemmas.{index-take, index_some, no_opens-take}
 
 -- ## First bytes that exclude each other
@@ -16,9 +16,6 @@ use Rattle.pp_lexer.proofs.OpeningLemmas.{index-take, index_some, no_opens-take}
 digit_table : (c : ℕ) → c < 128 → (is_ascii_digit c && begins_word c) ≡ false
 unfolding is_start
 digit_table c h = agree_below_at (λ c. is_ascii_digit c && begins_word c) (λ c. false) 128 c refl h
-
-digit_small : (c : ℕ) → is_ascii_digit c ≡ true → c < 128
-digit_small c h = let both = and_parts (nat_le 48 c) (nat_le c 57) h in let le : c ≤ 57 = leb-true c 57 both.1 in omega arith
 
 dot_word : (c : ℕ) → c ≡ 46 → begins_word c ≡ false
 unfolding is_start

@@ -35,10 +35,6 @@ pub line_more : (s : List Spot) (c : ℕ) → c ≡ unwrap_or (byte_at s) 10 →
 line_more [] c e other = absurd (other e)
 line_more (x ∷ s) c e other = rest_of_line-cons x.byte (bytes s) (ne_eqb x.byte 10 (λ z. other (e ∙ z))) ∙ ap (λ b. b ∷ line s) (sym e)
 
-pub more_left : (s : List Spot) (c : ℕ) → c ≡ unwrap_or (byte_at s) 10 → (c ≡ 10 → ⊥) → s ≡ [] → ⊥
-more_left [] c e other z = other e
-more_left (x ∷ s) c e other z = cc
-
 take_none : (n : ℕ) → take {A = ℕ} n [] ≡ []
 take_none zero = refl
 take_none (suc n) = refl
@@ -76,11 +72,6 @@ lone_window (a ∷ []) = refl
 lone_window (a ∷ b ∷ []) = refl
 lone_window (a ∷ b ∷ c ∷ []) = refl
 lone_window (a ∷ b ∷ c ∷ d ∷ s) = refl
-
-pub second_window : (s : List ℕ) → slice_index (take 4 s) 1 ≡ slice_index s 1
-second_window [] = refl
-second_window (a ∷ []) = refl
-second_window (a ∷ b ∷ s) = refl
 
 lone_some : (s : List ℕ) → is_lone_less s ≡ true → 1 ≤ length s
 unfolding is_lone_less

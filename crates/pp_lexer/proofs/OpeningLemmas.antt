@@ -3,6 +3,7 @@ use Rattle.std.proofs.Common.{◌≡◌, ℕ, zero, suc, ◌<◌, ◌≤◌, Boo
 use Rattle.std.proofs.lemmas.Bool.{and_parts, and_right, ne_eqb, cases_lt, eqb-true, true≢false}
 use Rattle.std.specs.List.{starts_with}
 use Rattle.scan_model.specs.Spelling.{encoding_len, opens}
+use Rattle.lexeme_reader.proofs.QuotedLemmas.{encoding_len-take}
 
 -- what a front has at a place is what the text has there
 pub index-take : (s : List ℕ) (m i : ℕ) → i < m → slice_index (take m s) i ≡ slice_index s i
@@ -27,19 +28,10 @@ no_prefix : (long short : Bool) → prefix long short < 1 → prefix false short
 no_prefix true short h = absurd (omega arith)
 no_prefix false short h = refl
 
--- a prefix that is there in full
-pub encoding-take : (s : List ℕ) (m : ℕ) → encoding_len s < m → encoding_len (take m s) ≡ encoding_len s
-encoding-take s zero h = absurd (omega arith)
-encoding-take [] (suc m) h = refl
-encoding-take (a ∷ []) (suc zero) h = refl
-encoding-take (a ∷ []) (suc (suc m)) h = refl
-encoding-take (a ∷ b ∷ s) (suc zero) h = one_byte a ∙ no_prefix (starts_with nat_eq (a ∷ b ∷ s) (codes "u8")) (a == 117 || a == 85 || a == 76) h
-encoding-take (a ∷ b ∷ s) (suc (suc m)) h = refl
-
 -- the quote is there in a front exactly where the front reaches it
 pub opens-take : (q : ℕ) (s : List ℕ) (m : ℕ) → encoding_len s < m → opens q (take m s) ≡ opens q s
 opens-take q s m h =
-    ap (λ i. slice_index (take m s) i == q) (encoding-take s m h) ∙ ap (λ c. c == q) (index-take s m (encoding_len s) h)
+    ap (λ i. slice_index (take m s) i == q) (encoding_len-take s m h) ∙ ap (λ c. c == q) (index-take s m (encoding_len s) h)
 
 long_short : (a b : ℕ) (s : List ℕ) → starts_with nat_eq (a ∷ b ∷ s) (codes "u8") ≡ true → (a == 117 || a == 85 || a == 76) ≡ true
 long_short a b s h =

@@ -1,10 +1,10 @@
 -- What shows between two cursors, byte by byte.
-use Rattle.std.proofs.Common.{◌≡◌, ℕ, ◌+◌, ◌-◌, ◌<◌, ◌≤◌, Bool, true, false, nat_le, List, [], ◌∷◌, ◌++◌, refl, ap, sym, ◌∙◌, inl, inr, take, drop, length, length-drop, length-take, slice_set, arith, cond, ◌||◌, Some, is_some}
+use Rattle.std.proofs.Common.{◌≡◌, ℕ, ◌+◌, ◌-◌, ◌<◌, ◌≤◌, false, nat_le, List, [], ◌∷◌, ◌++◌, refl, ap, sym, ◌∙◌, inl, inr, take, drop, length, length-drop, length-take, slice_set, arith, ◌||◌, is_some}
 use Rattle.std.proofs.lemmas.Bool.{cases_lt, leb-true, false_from_ne_true}
 use Rattle.std.proofs.lemmas.List.{drop-drop, append_assoc}
 use Rattle.std.specs.Prelude.{unwrap_or}
 use Rattle.std.specs.Option.{option_map}
-use Rattle.std.specs.List.{find, list_any}
+use Rattle.std.specs.List.{find}
 use Rattle.word_table.specs.Rows.{value_of, has_word}
 use Rattle.word_table.specs.Tables.{operator_words}
 use Rattle.line_splice.specs.declared.cursor.Cursor.{Cursor}
@@ -17,6 +17,7 @@ use Rattle.lexeme_reader.proofs.SpotLemmas.{bytes-take_more, bytes-take, bytes-d
 use Rattle.pp_lexer.specs.Reads.{passed, IsAhead}
 use Rattle.pp_lexer.proofs.PlaceLemmas.{place_later}
 use Rattle.pp_lexer.proofs.MarkLemmas.{set_more}
+use Rattle.token_spelling.proofs.TableLemmas.{found_any}
 
 -- the spots that are left after some of the first
 abbrev pub IsAlong : List Spot → List Spot → Type 0
@@ -74,10 +75,6 @@ passed_more s u v front whole more along next some same =
     ∙ ap (λ b. front ++ b) (sym (bytes-take_more s i) ∙ ap (λ k. bytes (take k s)) (sym (along_more s u v along next some).1))
 
 -- ## Alternative words
-
-found_any : {A B : Type 0} (f : A → B) (p : A → Bool) (xs : List A) → is_some (option_map f (find p xs)) ≡ list_any p xs
-found_any f p [] = refl
-found_any f p (x ∷ xs) = elim (p x) as (λ b. is_some (option_map f (cond b (Some x) (find p xs))) ≡ (b || list_any p xs)) [ true ↦ refl | false ↦ found_any f p xs ]
 
 pub alternative_found : (s : List ℕ) → is_some (option_map value_of (find (has_word s) operator_words)) ≡ is_alternative s
 unfolding is_alternative

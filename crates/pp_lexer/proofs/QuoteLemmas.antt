@@ -14,22 +14,17 @@ use Rattle.scan_model.specs.Tokens.{is_token, kind_of}
 use Rattle.scan_model.proofs.LongestLemmas.{longest_is, longest_le, longest_passes, longest_beyond}
 use Rattle.scan_model.proofs.QuotedLemmas.{closes}
 use Rattle.pp_lexer.proofs.ClassLemmas.{begins_word, begins_digits, number_first}
-use Rattle.pp_lexer.proofs.OpeningLemmas.{index-take, index_some, encoding-take, opens-take, opens_reaches}
+use Rattle.pp_lexer.proofs.OpeningLemmas.{index-take, index_some, opens-take, opens_reaches}
 use Rattle.pp_lexer.proofs.ChoiceLemmas.{digits_word, Mark, mark_facts, punct_no}
+use Rattle.lexeme_reader.proofs.DelimiterLemmas.{all_from}
+use Rattle.lexeme_reader.proofs.PassLemmas.{list_all-append}
+use Rattle.lexeme_reader.proofs.QuotedLemmas.{encoding_len-take}
 
 -- ## No name has a quote in it
 
 -- a byte beyond ASCII, or a character of names
 abbrev in_word : ℕ → Bool
 in_word c = nat_le 128 c || is_start c || is_continue c
-
-all_by_index : (p : ℕ → Bool) (xs : List ℕ) → ((k : ℕ) → k < length xs → p (get_or xs k 0) ≡ true) → list_all p xs ≡ true
-all_by_index p [] h = refl
-all_by_index p (x ∷ xs) h = and_from (p x) (list_all p xs) (h 0 (omega arith)) (all_by_index p xs (λ k lt. h (suc k) (omega arith)))
-
-all_append : (p : ℕ → Bool) (xs ys : List ℕ) → list_all p xs ≡ true → list_all p ys ≡ true → list_all p (xs ++ ys) ≡ true
-all_append p [] ys h k = k
-all_append p (x ∷ xs) ys h k = let both = and_parts (p x) (list_all p xs) h in and_from (p x) (list_all p (xs ++ ys)) both.0 (all_append p xs ys both.1 k)
 
 at_all : (p : ℕ → Bool) (xs : List ℕ) (i : ℕ) → i < length xs → list_all p xs ≡ true → p (slice_index xs i) ≡ true
 at_all p [] i lt h = absurd (omega arith)
@@ -39,7 +34,7 @@ at_all p (x ∷ xs) (suc i) lt h = at_all p xs i (omega arith) (and_parts (p x) 
 encoded_in_word : (d : ℕ) → (is_start d || is_continue d) ≡ true → list_all in_word (encode_utf8 d) ≡ true
 encoded_in_word d h = elim (cases_lt d 128) [
   | inl small ↦ ap (list_all in_word) (encode_ascii d small) ∙ and_from (in_word d) true (last_two (nat_le 128 d) (is_start d) (is_continue d) h) refl
-  | inr large ↦ all_by_index in_word (encode_utf8 d) (λ k lt. elim (cases_lt (get_or (encode_utf8 d) k 0) 128) [
+  | inr large ↦ all_from in_word (encode_utf8 d) (λ k lt. elim (cases_lt (get_or (encode_utf8 d) k 0) 128) [
     | inl small ↦ absurd (let same : d ≡ get_or (encode_utf8 d) k 0 = inside_one d [] (encode_utf8 d) k (sym (append-nil (encode_utf8 d))) lt small in omega arith)
     | inr big ↦ first_one (nat_le 128 (get_or (encode_utf8 d) k 0)) _ _ (le-leb 128 (get_or (encode_utf8 d) k 0) big)
   ])
@@ -56,7 +51,7 @@ encoded_all : (ds : List ℕ) → list_all (λ d. is_start d || is_continue d) d
 encoded_all [] h = refl
 encoded_all (d ∷ ds) h =
     let both = and_parts (is_start d || is_continue d) (list_all (λ d. is_start d || is_continue d) ds) h in
-    all_append in_word (encode_utf8 d) (encode_utf8_all ds) (encoded_in_word d both.0) (encoded_all ds both.1)
+    list_all-append in_word (encode_utf8 d) (encode_utf8_all ds) (encoded_in_word d both.0) (encoded_all ds both.1)
 
 name_chars : (ds : List ℕ) → are_name ds ≡ true → list_all (λ d. is_start d || is_continue d) ds ≡ true
 name_chars [] h = cc
@@ -194,7 +189,7 @@ quoted_some q o s r quote opening after =
     let whole = c.whole in
     let le : m ≤ length s = omega (arith, whole, within, length-drop (i + 1) s) in
     let inside : after_quoted q (take m s) ≡ Some [] =
-    ap (λ k. after_items q false (drop (k + 1) (take m s))) (encoding-take s m reaches)
+    ap (λ k. after_items q false (drop (k + 1) (take m s))) (encoding_len-take s m reaches)
     ∙ ap (after_items q false) (drop-take (i + 1) c.len s) ∙ c.long c.len 0 (omega arith) in
     let passes : is_quoted q (take m s) ≡ true =
     and_from (opens q (take m s)) _ (opens-take q s m reaches ∙ opening) (ap (λ a. option_map_or is_suffix a false) inside) in

@@ -4,7 +4,7 @@ use Rattle.std.proofs.lemmas.Bool.{and_parts, cases_Bool, cond_both, leb-true, l
 use Rattle.std.specs.List.{list_any, list_all, starts_with}
 use lib.Pointwise.{pointwise}
 use Rattle.scan_model.specs.Spelling.{is_one_of, punctuators, longest, longest_up_to}
-use Rattle.scan_model.proofs.LongestLemmas.{longest_is, pointwise_same}
+use Rattle.scan_model.proofs.LongestLemmas.{longest_is, pointwise_same, up_to_le}
 use Rattle.word_table.specs.Rows.{Entry, match_of, longer, longest_row}
 use Rattle.word_table.specs.Tables as tables
 
@@ -12,10 +12,6 @@ use Rattle.word_table.specs.Tables as tables
 
 abbrev larger : ℕ → ℕ → ℕ
 larger a b = cond (nat_le b a) a b
-
-up_to_le : (p : List ℕ → Bool) (s : List ℕ) (n : ℕ) → longest_up_to p s n ≤ n
-up_to_le p s zero = omega arith
-up_to_le p s (suc n) = let k = up_to_le p s n in cond_both (p (take (suc n) s)) (suc n) (longest_up_to p s n) (λ j. j ≤ suc n) (λ e. omega arith) (λ e. omega arith)
 
 larger_is : (a b : ℕ) → (b ≤ a → larger a b ≡ a) × (a ≤ b → larger a b ≡ b)
 larger_is a b = (
@@ -43,10 +39,6 @@ unfolding longest
 longest-either p q s = either_up_to p q s (length s)
 
 -- ## One word
-
-same_pointwise : (w : List ℕ) → pointwise nat_eq w w ≡ true
-same_pointwise [] = refl
-same_pointwise (c ∷ w) = grind (arith, same_pointwise w)
 
 longest-word : (w s : List ℕ) → longest (pointwise nat_eq w) s ≡ cond (starts_with nat_eq s w) (length w) 0
 longest-word w s = elim (cases_Bool (starts_with nat_eq s w)) [
@@ -106,9 +98,6 @@ short_rows n s (e ∷ es) h =
     take_front (suc k) zero s h = absurd (omega arith)
     take_front (suc k) (suc n) [] h = refl
     take_front (suc k) (suc n) (c ∷ s) h = ap (λ t. c ∷ t) (take_front k n s (omega arith))
-
-rows_are : (s : List ℕ) → is_one_of punctuators s ≡ is_row tables.punctuators s
-rows_are s = refl
 
 pub longest-punctuator : (s : List ℕ) → longest (is_one_of punctuators) s ≡ len_of (longest_row (take 4 s) tables.punctuators)
 longest-punctuator s = longest-rows s tables.punctuators ∙ ap len_of (sym (short_rows 4 s tables.punctuators refl))

@@ -146,19 +146,6 @@ dropped_spelled b after d = ap (take after.kept_bytes) d.spelled_is ∙ ap (λ n
 dropped_records : (b after : OpenLines) → Drops b after → take after.kept_toks after.toks.items ≡ take b.kept_toks b.toks.items
 dropped_records b after d = ap (take after.kept_toks) d.toks_is ∙ ap (λ n. take n (take b.kept_toks b.toks.items)) d.count_is ∙ take-take b.kept_toks b.kept_toks b.toks.items (omega arith)
 
-pub sound_dropped : (b after : OpenLines) → IsSound b → Drops b after → IsSound after
-sound_dropped b after s d =
-    let bytes_in : length after.spelled.items ≡ b.kept_bytes = ap length d.spelled_is ∙ length-take-le b.kept_bytes b.spelled.items s.bytes in
-    let toks_in : length after.toks.items ≡ b.kept_toks = ap length d.toks_is ∙ length-take-le b.kept_toks b.toks.items s.toks in
-    record {
-      bytes = omega (arith, bytes_in, d.bytes_is);
-      toks = omega (arith, toks_in, d.count_is);
-      kept = subst (λ ls. AreWithin (take after.kept_bytes after.spelled.items) (take after.kept_toks after.toks.items) ls) (sym d.lines_is)
-          (subst (λ ts. AreWithin (take after.kept_bytes after.spelled.items) ts b.lines.items) (sym (dropped_records b after d))
-          (subst (λ xs. AreWithin xs (take b.kept_toks b.toks.items) b.lines.items) (sym (dropped_spelled b after d)) s.kept));
-      cut = All-same (IsCut after.spelled.items) (drop after.kept_toks after.toks.items) [] (nothing_open b after d) (All-nil (IsCut after.spelled.items));
-    }
-
 pub kept_dropped : (b after : OpenLines) → Drops b after → kept_lines after ≡ kept_lines b
 unfolding kept_lines
 kept_dropped b after d = same_lines_of _ _ _ _ _ _ (dropped_spelled b after d) (dropped_records b after d) d.lines_is

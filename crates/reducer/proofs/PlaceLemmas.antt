@@ -95,11 +95,6 @@ last_two word zero (t ∷ u ∷ []) h = refl
 last_two word zero (t ∷ u ∷ v ∷ ts) h = absurd (omega arith)
 last_two word (suc k) (t ∷ ts) h = last_two word k ts (omega arith)
 
-pub few_end : (ts : List Tok) → length ts ≤ 1 → false ≡ ends_in_test ts
-few_end [] h = refl
-few_end (t ∷ []) h = sym (no_second (spells "__has_include" t.text) (spells "__has_include_next" t.text))
-few_end (t ∷ u ∷ ts) h = absurd (omega arith)
-
 by_last : (a b p : Bool) → p ≡ false → ((a && (p && true)) || (b && (p && true))) ≡ false
 by_last a b p e = rw e (no_second a b)
 

@@ -18,7 +18,7 @@ length-ordered from [] small o = omega arith
 length-ordered from (l ∷ ls) small o = let more = length-ordered l.next ls o.2 o.3 in omega (arith, more, o.0, o.1)
 
 -- what holds of each element holds of one that is got
-all_at : {X : Type 0} (P : X → Type 0) (xs : List X) (k : ℕ) (x : X) → All P xs → slice_get xs k ≡ Some x → P x
+pub all_at : {X : Type 0} (P : X → Type 0) (xs : List X) (k : ℕ) (x : X) → All P xs → slice_get xs k ≡ Some x → P x
 all_at P xs k x all e = subst P (get_or_from_slice_get xs k x x e) (All-get_or P xs k x (slice_get_within xs k x e) all)
 
 pub utf8_at : (lines : List Line) (k i : ℕ) (t : Tok) → AreReduced lines → slice_get (toks_of lines k) i ≡ Some t → HasUtf8Name t

@@ -6,8 +6,8 @@ use Rattle.scan_model.specs.declared.token.Kind.{Kind}
 use Rattle.scan_model.specs.declared.token.Kind.TheVariants.{Stray, Punct, Header}
 use Rattle.scan_model.specs.declared.token.Tok.{Tok}
 use Rattle.scan_model.specs.Spliced.{Spot, at_newline, is_hidden, shown}
-use Rattle.scan_model.specs.Spelling.{opens_raw, encoding_len, is_delimited, after_raw, longest, is_header, is_suffix}
-use Rattle.scan_model.specs.Tokens.{Lexeme, is_token, is_character, kind_of, bytes, after_blanks, cut, wants_header, is_open, is_lone_less, rest_of_line, from_place, raw_closed, raw_lexeme, written_after, lexeme, token_at, next_token}
+use Rattle.scan_model.specs.Spelling.{encoding_len, is_delimited, after_raw, longest, is_header, is_suffix}
+use Rattle.scan_model.specs.Tokens.{Lexeme, is_token, kind_of, bytes, after_blanks, cut, rest_of_line, from_place, raw_closed, raw_lexeme, written_after, lexeme, token_at, next_token}
 use Rattle.scan_model.proofs.LexemeCases.{lexeme_cases, stray_len}
 use Rattle.scan_model.proofs.BlankLemmas.{EndOf, end_after_blanks}
 use Rattle.scan_model.proofs.LineLemmas.{if_some, next_takes}
@@ -67,9 +67,6 @@ place_later most n s h = let k = far most n s h in omega arith
 
 pub place_end : (most : ℕ) (s t : List Spot) → EndOf s t → ArePlaced most s → place_in most s ≤ place_in most t
 place_end most s t e h = subst (λ t. place_in most s ≤ place_in most t) (sym e.1) (place_later most e.0 s h)
-
-pub placed_end : (most : ℕ) (s t : List Spot) → EndOf s t → ArePlaced most s → ArePlaced most t
-placed_end most s t e h = subst (ArePlaced most) (sym e.1) (placed-drop most e.0 s h)
 
 -- ## A token's spelling
 

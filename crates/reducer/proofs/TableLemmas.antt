@@ -57,9 +57,6 @@ skip_at_line spelled toks lines skips k d dialect w table in_lines =
     let within : k < length (directives dialect lines) = omega (arith, in_lines, length-map lines (line_of spelled toks), length-map lines (λ (l : LineRecord). in_dialect dialect l.directive)) in
     sym (entry_is (directives dialect lines) skips 0 k d (get_or skips k d) table (omega arith) within refl) ∙ ap (λ ds. skip_among ds k) (directives_are spelled toks lines dialect w) ∙ sym (skip_is dialect ls k)
 
-pub table_covers : (lines : List LineRecord) (skips : List Skip) (dialect : Dialect) → AreSkips (directives dialect lines) skips → length skips ≡ length lines
-table_covers lines skips dialect table = table.whole ∙ length-map lines (λ (l : LineRecord). in_dialect dialect l.directive)
-
 -- ## Both dialects
 
 pub same_table : (lines : List LineRecord) (newest : List Directive) (skips : List Skip) → newest ≡ directives Cxx23 lines → map (in_dialect Cxx20) newest ≡ newest → AreSkips newest skips

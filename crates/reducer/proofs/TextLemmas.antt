@@ -58,7 +58,7 @@ no_sharp true d b e h = cc
 no_sharp false true b e h = cc
 no_sharp false false b e h = (refl, refl)
 
-not_true : (b : Bool) → not b ≡ true → b ≡ false
+pub not_true : (b : Bool) → not b ≡ true → b ≡ false
 not_true true h = cc
 not_true false h = refl
 

@@ -1,22 +1,19 @@
 -- One turn of the loops over a text and over a line that may be kept.
-use Rattle.std.proofs.Common.{◌≡◌, ℕ, ◌<◌, ◌≤◌, Bool, true, List, [], ◌∷◌, ◌++◌, refl, ap, sym, ◌∙◌, subst, inl, append-nil, drop, length, arith, Some, None}
+use Rattle.std.proofs.Common.{◌≡◌, ℕ, ◌<◌, ◌≤◌, Bool, true, List, [], ◌∷◌, ◌++◌, refl, ap, sym, ◌∙◌, subst, inl, append-nil, drop, length, Some, None}
 use Rattle.std.proofs.lemmas.List.{append_assoc}
 use Rattle.std.specs.List.{filter}
 use Rattle.scan_model.specs.declared.token.Tok.{Tok}
 use Rattle.scan_model.specs.declared.token.Line.{Line}
 use Rattle.scan_model.specs.Spliced.{Spot, byte_at, line_at, spliced}
 use Rattle.scan_model.specs.Lines.{closed, is_directive, kept}
-use Rattle.scan_model.proofs.LineLemmas.{next_takes}
 use Rattle.reducer.specs.ReducedLines.{AreReduced}
 use Rattle.reducer.specs.Directives.{is_text, kept_from, IsPassed}
 use Rattle.pp_lexer.specs.Reads.{GivesToken}
+use Rattle.pp_lexer.proofs.LinesLemmas.{token_smaller}
 use Rattle.reducer.specs.declared.open_lines.OpenLines.{OpenLines}
 use Rattle.reducer.specs.Building.{open_toks}
 use Rattle.reducer.specs.ReadToken.{ReadsToken}
 use Rattle.reducer.proofs.KeptLemmas.{kept_from-token, kept_from-newline, kept_from-empty, kept_from-end, kept_from-start, reduced_kept}
-
-token_smaller : (text : List ℕ) (before : List Tok) (s left : List Spot) (t : Tok) → GivesToken text before s (Some t) left → length left < length s
-token_smaller text before s left t h = let z = next_takes text before s h.0 h.1 in let e : length left ≡ length h.0.left = ap length h.3 in omega arith
 
 -- after a token
 token_turn : (text : List ℕ) (before toks : List Tok) (s left : List Spot) (t : Tok) → GivesToken text before s (Some t) left → toks ≡ before ++ t ∷ [] → kept_from text before s ≡ kept_from text toks left

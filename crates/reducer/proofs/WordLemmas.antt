@@ -1,5 +1,5 @@
 -- What the bytes at a line's front tell of its first token.
-use Rattle.std.proofs.Common.{◌≡◌, ℕ, zero, suc, ◌+◌, ◌<◌, Bool, true, false, cond, not, ◌&&◌, ◌||◌, ◌==◌, nat_eq, nat_lt, if◌then◌else◌, List, [], ◌∷◌, ◌++◌, refl, ap, sym, ◌∙◌, subst, inl, inr, ◌-◌, drop, take, length, slice_index, arith, codes, Option, Some, None}
+use Rattle.std.proofs.Common.{◌≡◌, ℕ, zero, suc, ◌+◌, ◌<◌, Bool, true, false, not, ◌&&◌, ◌||◌, ◌==◌, nat_eq, if◌then◌else◌, List, [], ◌∷◌, ◌++◌, refl, ap, sym, ◌∙◌, subst, inl, inr, ◌-◌, drop, take, length, slice_index, arith, codes, Option, Some, None}
 use Rattle.std.proofs.lemmas.Bool.{and_parts, both_ways, cases_Bool, cond_both, eqb-true, eq-eqb, ne_eqb}
 use Rattle.std.proofs.lemmas.List.{append_assoc}
 use Rattle.std.specs.List.{starts_with}
@@ -9,12 +9,13 @@ use Rattle.scan_model.specs.declared.token.Kind.TheVariants.{Stray, Punct, Heade
 use Rattle.scan_model.specs.declared.token.Tok.{Tok}
 use Rattle.scan_model.specs.Spliced.{Spot}
 use Rattle.scan_model.specs.Spelling.{opens_raw, encoding_len, is_delimited, after_raw, longest, is_header, is_suffix, spells}
-use Rattle.scan_model.specs.Tokens.{from_place, Lexeme, begins, is_token, is_character, kind_of, bytes, after_blanks, cut, wants_header, is_open, is_lone_less, rest_of_line, raw_closed, raw_lexeme, written_after, lexeme, token_at, next_token}
+use Rattle.scan_model.specs.Tokens.{from_place, Lexeme, begins, is_token, kind_of, bytes, after_blanks, cut, rest_of_line, raw_closed, raw_lexeme, written_after, lexeme, token_at, next_token}
 use Rattle.scan_model.specs.Lines.{tok}
 use Rattle.scan_model.proofs.LexemeCases.{lexeme_cases, stray_len}
 use Rattle.scan_model.proofs.RestLemmas.{rest_of_line-cons}
 use Rattle.scan_model.proofs.LineLemmas.{if_some}
 use Rattle.reducer.specs.Directives.{is_text, may_begin_directive, begins_text}
+use Rattle.reducer.proofs.TextLemmas.{not_true}
 
 -- a token that is spelled so begins with bytes that show so
 abbrev Shows : List ℕ → List Spot → Lexeme → Type 0
@@ -122,10 +123,6 @@ none_of_five false true c d e h = cc
 none_of_five false false true d e h = cc
 none_of_five false false false true e h = cc
 none_of_five false false false false true h = cc
-
-not_true : (b : Bool) → not b ≡ true → b ≡ false
-not_true true h = cc
-not_true false h = refl
 
 text_of_words : (s d i m e : Bool) → s ≡ false → d ≡ false → i ≡ false → m ≡ false → e ≡ false
     → (not (((s || (d || false)) || (false || false)) || (e && (false || false))) && not (i || (m || (e || false)))) ≡ true

@@ -3,6 +3,7 @@ use Rattle.std.proofs.Common.{◌≡◌, ◌<◌, ◌≤◌, ◌+◌, ◌*◌, �
 use Rattle.std.specs.Prelude.{IfOk, OnErr, Result, slice_set, ◌^◌, min, ◌-◌, sum}
 use Rattle.std.specs.declared.result.Result.TheVariants.{Ok, Err}
 use Rattle.std.proofs.lemmas.Bool.Decides.{nat_tests}
+use Rattle.std.proofs.lemmas.Option.{slice_get_within}
 use Rattle.scan_model.specs.declared.memory.NoMemory.{NoMemory}
 use Rattle.scan_model.specs.declared.command.Settings.{Settings}
 use Rattle.scan_model.specs.declared.command.Command.{Command}
@@ -14,7 +15,7 @@ use Rattle.unit_steps.specs.UnitView.{UnitView, Fits, IsSameScan}
 use Rattle.unit_steps.specs.Work.{rank}
 use Rattle.unit_scan.specs.Told.{rank_limit}
 use Rattle.cache_machine.specs.Rows.{Row, map_of}
-use Rattle.cache_machine.specs.Machine.{Machine, Worker, Idle, worker_at}
+use Rattle.cache_machine.specs.Machine.{Worker, Idle, worker_at}
 use Rattle.cache_machine.specs.Machine as machine
 use Rattle.cache_machine.specs.Steps.{Draw, drawn, draw}
 use Rattle.cache_machine.specs.Spending.{draw_spent}
@@ -31,7 +32,7 @@ use Rattle.scan_core.specs.Events.{core_wants}
 use Rattle.scan_core.specs.Running.{RunsOnTo, IsFirstSeat}
 use Rattle.scan_core.specs.Seats.{command_limit, left_at, worker_of, IsUnitOf, SeatFits, seat_or_spent}
 use Rattle.scan_core.specs.Inside.{State, rows_of, machine_of, seen, left_in, HoldsAt}
-use Rattle.scan_core.proofs.ListLemmas.{map_set, length_set, length_map, get_map, get_within, sum_set}
+use Rattle.scan_core.proofs.ListLemmas.{map_set, length_set, length_map, get_map, sum_set}
 use Rattle.scan_core.proofs.SeatLemmas.{worker_of_seat}
 use Rattle.scan_core.proofs.WantingSeats.{idle_seat}
 use Rattle.scan_core.proofs.Answering.{asking_path}
@@ -65,9 +66,9 @@ module _ {R : Type 0} (content : R → Content (List ℕ)) where
 
   first_worker : (jobs : List Job) (settings : Settings) (n : ℕ) (job : Option Job) (seat : Seat R) → slice_get jobs n ≡ job → IsFirstSeat settings n job seat → worker_of content seat ≡ drawn jobs n
   first_worker jobs settings n None seat at h = ap (worker_of content) h ∙ sym (past_drawn jobs n at)
-  first_worker jobs settings n (Some (JobIs.Refused f)) seat at h = ap (worker_of content) h ∙ sym (within_drawn jobs n (get_within jobs n (JobIs.Refused f) at))
+  first_worker jobs settings n (Some (JobIs.Refused f)) seat at h = ap (worker_of content) h ∙ sym (within_drawn jobs n (slice_get_within jobs n (JobIs.Refused f) at))
   first_worker jobs settings n (Some (JobIs.Run command)) seat at h =
-      run_worker n rank_limit h.0 seat h.1.1.1.0 h.1.1.1.1 ∙ sym (within_drawn jobs n (get_within jobs n (JobIs.Run command) at))
+      run_worker n rank_limit h.0 seat h.1.1.1.0 h.1.1.1.1 ∙ sym (within_drawn jobs n (slice_get_within jobs n (JobIs.Run command) at))
 
 first_left : (a : ℕ) → a < rank_limit → 4 * a + 7 < command_limit
 first_left a h = omega arith

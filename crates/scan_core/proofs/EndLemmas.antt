@@ -81,12 +81,6 @@ module _ {R : Type 0} (content : R → Content (List ℕ)) (s : State R) (holds 
       let job = job_of s.jobs s.settings m w (seat_number seat) (worker_of content seat) worker_is sound (end_has_number content seat has) in
       let ends = sound.jobs_ends in omega arith
 
-  pub number_fits : seat_number seat < 2 ^ 32
-  number_fits =
-      let sound = reached_sound s.jobs s.settings (length (map (worker_of content) s.seats)) m holds.reached in
-      let job = job_of s.jobs s.settings m w (seat_number seat) (worker_of content seat) worker_is sound (end_has_number content seat has) in
-      let few = holds.few_jobs in omega arith
-
   abbrev pub ended : State R
   ended = after content s holds w seat at s.entries s.next (slice_set s.ends (seat_number seat) (Some (seat_end seat))) SeatIs.Idle
 

@@ -1,5 +1,5 @@
 -- Lists with one place set, or one element more.
-use Rattle.std.proofs.Common.{◌≡◌, ◌≢◌, ◌<◌, ℕ, zero, suc, ◌+◌, List, [], ◌∷◌, ◌++◌, map, length, slice_get, refl, ap, sym, subst, Some, arith}
+use Rattle.std.proofs.Common.{◌≡◌, ◌≢◌, ◌<◌, ℕ, zero, suc, ◌+◌, List, [], ◌∷◌, ◌++◌, map, length, slice_get, refl, ap, subst, Some, arith}
 use Rattle.std.specs.Prelude.{slice_set, replicate, sum}
 use Rattle.std.proofs.lemmas.List.Sums.{sum_by-cons}
 
@@ -24,12 +24,6 @@ pub length_map : {A B : Type 0} (f : A → B) (xs : List A) → length (map f xs
 length_map f [] = refl
 length_map f (x ∷ xs) = ap (λ n. suc n) (length_map f xs)
 
--- the same element set changes nothing
-pub set_same : {A : Type 0} (xs : List A) (w : ℕ) (a : A) → slice_get xs w ≡ Some a → slice_set xs w a ≡ xs
-set_same [] w a h = refl
-set_same (x ∷ xs) zero a h = let e : x ≡ a = cc in ap (λ z. z ∷ xs) (sym e)
-set_same (x ∷ xs) (suc w) a h = ap (λ z. x ∷ z) (set_same xs w a h)
-
 pub get_map : {A B : Type 0} (f : A → B) (xs : List A) (w : ℕ) (a : A) → slice_get xs w ≡ Some a → slice_get (map f xs) w ≡ Some (f a)
 get_map f [] w a h = cc
 get_map f (x ∷ xs) zero a h = let e : x ≡ a = cc in ap (λ z. Some (f z)) e
@@ -40,11 +34,6 @@ pub map_got : {A B : Type 0} (f : A → B) (xs : List A) (w : ℕ) (b : B) → s
 map_got f [] w b h = cc
 map_got f (x ∷ xs) zero b h = (x, (refl, cc))
 map_got f (x ∷ xs) (suc w) b h = map_got f xs w b h
-
-pub get_within : {A : Type 0} (xs : List A) (w : ℕ) (a : A) → slice_get xs w ≡ Some a → w < length xs
-get_within [] w a h = cc
-get_within (x ∷ xs) zero a h = omega arith
-get_within (x ∷ xs) (suc w) a h = let k = get_within xs w a h in omega arith
 
 pub get_set : {A : Type 0} (xs : List A) (w : ℕ) (a b : A) → slice_get xs w ≡ Some a → slice_get (slice_set xs w b) w ≡ Some b
 get_set [] w a b h = cc
@@ -61,23 +50,6 @@ each_set P (y ∷ xs) (suc w) a each here zero x h = each zero x (λ e. cc) h
 each_set P (y ∷ xs) (suc w) a each here (suc v) x h = each_set (λ u z. P (suc u) z) xs w a (λ u z differ k. each (suc u) z (λ e. differ (omega arith)) k) here v x h
 
 -- ## One element more
-
-pub get_before : {A : Type 0} (xs more : List A) (w : ℕ) (a : A) → slice_get xs w ≡ Some a → slice_get (xs ++ more) w ≡ Some a
-get_before [] more w a h = cc
-get_before (x ∷ xs) more zero a h = h
-get_before (x ∷ xs) more (suc w) a h = get_before xs more w a h
-
-pub get_last : {A : Type 0} (xs : List A) (a : A) → slice_get (xs ++ a ∷ []) (length xs) ≡ Some a
-get_last [] a = refl
-get_last (x ∷ xs) a = get_last xs a
-
--- what holds of each element, and of the last
-pub each_push : {A : Type 0} (P : ℕ → A → Type 0) (xs : List A) (a : A) → ((v : ℕ) (x : A) → slice_get xs v ≡ Some x → P v x) → P (length xs) a →
-    (v : ℕ) (x : A) → slice_get (xs ++ a ∷ []) v ≡ Some x → P v x
-each_push P [] a each here zero x h = let e : a ≡ x = cc in subst (λ z. P zero z) e here
-each_push P [] a each here (suc v) x h = cc
-each_push P (y ∷ xs) a each here zero x h = each zero x h
-each_push P (y ∷ xs) a each here (suc v) x h = each_push (λ u z. P (suc u) z) xs a (λ u z k. each (suc u) z k) here v x h
 
 pub map_append : {A B : Type 0} (f : A → B) (xs ys : List A) → map f (xs ++ ys) ≡ map f xs ++ map f ys
 map_append f [] ys = refl

@@ -10,8 +10,9 @@ use Rattle.scan_model.specs.Files.{Content}
 use Rattle.unit_laws.specs.Reduction.{reduced_content}
 use Rattle.unit_steps.specs.UnitView.{UnitView, Asks, IsAsking, given, asked_by}
 use Rattle.unit_steps.specs.Work.{rank}
+use Rattle.unit_steps.proofs.Logs.{get_last}
 use Rattle.cache_machine.specs.Rows.{Held, Claimed, Done, Row, held_at, done_of, map_of}
-use Rattle.cache_machine.specs.Machine.{Machine, Worker, worker_at}
+use Rattle.cache_machine.specs.Machine.{Machine, worker_at}
 use Rattle.cache_machine.specs.Machine as machine
 use Rattle.cache_machine.specs.JobLooks.{path_at}
 use Rattle.cache_machine.specs.Steps.{Look, look, look_path, look_held}
@@ -20,6 +21,7 @@ use Rattle.cache_machine.specs.Runs.{moved}
 use Rattle.cache_machine.specs.Wants.{Look_wanted, Waits, wants_held, wants_path, wants_as}
 use Rattle.cache_machine.specs.RowGrowth.{RowsGrow}
 use Rattle.cache_machine.proofs.RowLemmas.{grows_refl, grows_append}
+use Rattle.cache_machine.proofs.JobLemmas.{get_append}
 use Rattle.scan_core.specs.declared.seat.Kept.TheVariants as KeptIs
 use Rattle.scan_core.specs.declared.seat.Seat.{Seat}
 use Rattle.scan_core.specs.declared.seat.Seat.TheVariants as SeatIs
@@ -30,7 +32,7 @@ use Rattle.scan_core.specs.CoreSteps.{Steps, after_step}
 use Rattle.scan_core.specs.Running.{RunsOnTo}
 use Rattle.scan_core.specs.Seats.{left_at, looking, worker_of, SeatFits, seat_or_spent}
 use Rattle.scan_core.specs.Inside.{Entry, State, held_of, row_of, machine_of, seen, left_in, HoldsAt}
-use Rattle.scan_core.proofs.ListLemmas.{map_set, map_append, get_before, get_last, length_map}
+use Rattle.scan_core.proofs.ListLemmas.{map_set, map_append, length_map}
 use Rattle.scan_core.proofs.UnitLemmas.{unit_path}
 use Rattle.scan_core.proofs.RowLookups.{held_looked_up}
 use Rattle.scan_core.proofs.SeatLemmas.{worker_of_seat, asked_path}
@@ -155,7 +157,7 @@ module _ {R : Type 0} (content : R → Content (List ℕ)) (s : State R) (holds 
       grow = subst (λ z. RowsGrow m.rows z) (sym rows_now) (grows_append m.rows (added next))
 
       stay : (v : ℕ) → ClaimsStay m.rows (map (row_of content) entries) v
-      stay v = subst (λ z. ClaimsStay m.rows z v) (sym rows_now) (λ i p there. get_before m.rows (added next) i (record { path = p; held = Claimed v }) there)
+      stay v = subst (λ z. ClaimsStay m.rows z v) (sym rows_now) (λ i p there. get_append m.rows (added next) i (record { path = p; held = Claimed v }) there)
 
       machine_by : (result : Result (Seat R) NoMemory) → IfOk result (λ seat. (seat ≡ SeatIs.Reads n u (length s.entries)) × IsClaim s.entries entries of w) → OnErr result (entries ≡ s.entries) →
           record m { rows = map (row_of content) entries; workers = slice_set m.workers w (worker_of content (seat_or_spent n result)) } ≡ moved s.jobs s.settings m (move_of result (Look w))

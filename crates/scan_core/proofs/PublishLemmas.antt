@@ -5,6 +5,7 @@ use Rattle.std.specs.Option.{option_map}
 use Rattle.std.specs.declared.alloc.Global.{Global}
 use Rattle.std.specs.declared.vec.Vec.{Vec}
 use Rattle.std.specs.declared.result.Result.TheVariants.{Ok, Err}
+use Rattle.std.proofs.lemmas.Option.{slice_get_within}
 use Rattle.indexmap.specs.IndexMap.{set_value_at}
 use Rattle.scan_model.specs.declared.memory.NoMemory.{NoMemory}
 use Rattle.scan_model.specs.Files.{Content}
@@ -30,7 +31,7 @@ use Rattle.scan_core.specs.CoreSteps.{Steps, after_step}
 use Rattle.scan_core.specs.Running.{RunsOnTo}
 use Rattle.scan_core.specs.Seats.{worker_of, IsUnitOf, SeatFits, seat_or_spent}
 use Rattle.scan_core.specs.Inside.{Entry, State, held_of, row_of, machine_of, seen, HoldsAt}
-use Rattle.scan_core.proofs.ListLemmas.{map_set, get_map, map_got, get_within}
+use Rattle.scan_core.proofs.ListLemmas.{map_set, get_map, map_got}
 use Rattle.scan_core.proofs.UnitLemmas.{unit_path}
 use Rattle.scan_core.proofs.SeatLemmas.{worker_of_seat}
 use Rattle.scan_core.proofs.Answering.{answered_at, answered_worker, answered_fits, answered_left}
@@ -76,7 +77,7 @@ module _ {R : Type 0} (content : R → Content (List ℕ)) (s : State R) (holds 
       (entry.0, (found.1.0 ∙ ap (λ z. Some (entry.0, z)) kept, ap (λ (z : Row). z.path) found.1.1))
 
   pub place_within : place < length s.entries
-  place_within = get_within s.entries place (entry_there.0, KeptIs.Claimed w) entry_there.1.0
+  place_within = slice_get_within s.entries place (entry_there.0, KeptIs.Claimed w) entry_there.1.0
 
   differ : RowsDiffer m.rows
   differ = (reached_sound s.jobs s.settings (length (map (worker_of content) s.seats)) m holds.reached).differ

@@ -1,5 +1,5 @@
 -- What a unit, or a refused job, says of its job's looks and answer.
-use Rattle.std.proofs.Common.{◌≡◌, ℕ, suc, List, [], ◌∷◌, length, slice_get, refl, ap, sym, ◌∙◌, Some, None, arith}
+use Rattle.std.proofs.Common.{◌≡◌, ℕ, List, [], ◌∷◌, length, slice_get, ap, sym, ◌∙◌, Some, None, arith}
 use Rattle.std.proofs.lemmas.Option.{slice_get_past}
 use Rattle.scan_model.specs.declared.command.Settings.{Settings}
 use Rattle.scan_model.specs.declared.command.Job.{Job}
@@ -8,17 +8,12 @@ use Rattle.scan_model.specs.declared.command.CommandFault.{CommandFault}
 use Rattle.scan_model.specs.declared.unit_end.UnitEnd.{UnitEnd}
 use Rattle.scan_model.specs.declared.unit_end.UnitEnd.TheVariants as Ends
 use Rattle.scan_model.specs.Answer.{Known, answer, looked}
-use Rattle.unit_laws.specs.Reduction.{Given}
 use Rattle.unit_laws.specs.KnownAnswers.{asked}
 use Rattle.unit_steps.specs.UnitView.{UnitView, Asks, Over}
-use Rattle.unit_steps.proofs.Callers.{kth_looked, end_is_answer}
+use Rattle.unit_steps.proofs.Callers.{kth_looked, end_is_answer, length_asked}
 use Rattle.cache_machine.specs.Rows.{Row, map_of}
 use Rattle.cache_machine.specs.JobLooks.{looked_by_job, path_at, answer_at, answer_by_job}
 use Rattle.scan_core.specs.Seats.{IsUnitOf}
-
-length_asked : (answers : List (List ℕ × Given)) → length (asked answers) ≡ length answers
-length_asked [] = refl
-length_asked (a ∷ answers) = ap (λ n. suc n) (length_asked answers)
 
 module _ (jobs : List Job) (settings : Settings) (rows : List Row) (n : ℕ) where
   -- a unit that asks has the path that its command looks at next

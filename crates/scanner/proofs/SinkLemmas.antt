@@ -1,15 +1,12 @@
 -- What a put does to a sink, and what none does.
-use Rattle.std.proofs.Common.{◌≡◌, ◌<◌, ◌^◌, ◌-◌, ℕ, List, Option, Result, Ok, Err, OnOk, OnErr, refl, inl, inr, arith}
+use Rattle.std.proofs.Common.{◌≡◌, ◌<◌, ◌^◌, ◌-◌, ℕ, List, Option, Result, Ok, Err, OnOk, OnErr, inl, inr, arith}
 use Rattle.file_source.specs.Sinks.{Rose, Adds, AddsPrefix, next_count}
-use Rattle.scanner.specs.Sinks.{put_to, GotNothing, GotAll, GotPart, GotPut}
+use Rattle.scanner.specs.Sinks.{put_to, GotAll, GotPart, GotPut}
 
 stays_fine : (before after : ℕ) → before < 2 ^ 64 - 1 → after ≡ before → ¬ (Rose before after)
 stays_fine before after few same rose = omega (arith, few, same, rose)
 
 module _ {K : Type 0} (held : K → Option (List ℕ)) (faults puts : K → ℕ) where
-  pub nothing_put : (sink : K) → faults sink < 2 ^ 64 - 1 → GotNothing (put_to held faults puts sink sink)
-  nothing_put sink few = record { same = refl; fine = stays_fine (faults sink) (faults sink) few refl; no_put = refl }
-
   module _ {T E : Type 0} (before after : K) (text : List ℕ) where
     pub all_put : (r : Result T E) → faults before < 2 ^ 64 - 1 → OnOk r (Adds (held before) text (held after)) → OnOk r (faults after ≡ faults before) → puts after ≡ next_count (puts before) → OnOk r (GotAll text (put_to held faults puts before after))
     all_put (Ok x) few added fine once = record { added = added; fine = stays_fine (faults before) (faults after) few fine; once = once }

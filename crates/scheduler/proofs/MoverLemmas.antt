@@ -13,6 +13,7 @@ use Rattle.cache_machine.proofs.Sound.{IsSound}
 use Rattle.cache_machine.proofs.WorkerLemmas.{get_there}
 use Rattle.scheduler.specs.Schedule.{chosen, can_move, numbers_below, movers_below, movers}
 use Rattle.scheduler.proofs.WantCases.{waits_is, over_is}
+use Rattle.shard_cache.proofs.MapLemmas.{append-nil_parts}
 
 -- ## Lists
 
@@ -20,10 +21,6 @@ get_append : {A : Type 0} (xs ys : List A) (k : ℕ) (x : A) → slice_get (xs +
 get_append [] ys k x h = inr (k, h)
 get_append (a ∷ xs) ys zero x h = inl h
 get_append (a ∷ xs) ys (suc k) x h = get_append xs ys k x h
-
-nothing_left : {A : Type 0} (xs ys : List A) → xs ++ ys ≡ [] → (xs ≡ []) × (ys ≡ [])
-nothing_left [] ys h = (refl, h)
-nothing_left (a ∷ xs) ys h = cc
 
 module _ (jobs : List Job) (settings : Settings) (m : Machine) where
   abbrev moves : ℕ → Bool
@@ -78,7 +75,7 @@ module _ (jobs : List Job) (settings : Settings) (m : Machine) where
   none_moves : (n : ℕ) → below n ≡ [] → (w : ℕ) → w < n → moves w ≡ false
   none_moves zero h w less = absurd (omega arith)
   none_moves (suc n) h w less =
-      let parts = nothing_left (below n) (one_if_moves (moves n) n) (sym (below_suc n) ∙ h) in
+      let parts = append-nil_parts (below n) (one_if_moves (moves n) n) (sym (below_suc n) ∙ h) in
       elim (cases_eq w n) [
         | inl here ↦ subst (λ z. moves z ≡ false) (sym here) (last_waits n (moves n) refl parts.1)
         | inr other ↦ none_moves n parts.0 w (omega arith)

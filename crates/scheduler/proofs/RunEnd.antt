@@ -4,6 +4,7 @@ use Rattle.std.specs.Prelude.{All, IsSome, IfOk, OnOk, Result, Ok, Err, slice_in
 use Rattle.std.specs.List.{AllByRecursion, AllZip}
 use Rattle.std.proofs.lemmas.Slice.Eq.{bytes_eq-Decides}
 use Rattle.std.proofs.lemmas.List.Elements.{All-nil, All-cons, All-head, All-tail, All-weaker, All-contains, All-contains_itself}
+use Rattle.std.proofs.lemmas.Option.{slice_get_within}
 use Rattle.scan_model.specs.declared.Outcome.{Outcome}
 use Rattle.scan_model.specs.declared.command.Settings.{Settings}
 use Rattle.scan_model.specs.declared.command.Job.{Job}
@@ -67,11 +68,6 @@ some_get [] n x h = cc
 some_get (y ∷ xs) zero x h = cc
 some_get (y ∷ xs) (suc n) x h = some_get xs n x h
 
-get_inside : {A : Type 0} (xs : List A) (n : ℕ) (x : A) → slice_get xs n ≡ Some x → n < length xs
-get_inside [] n x h = cc
-get_inside (y ∷ xs) zero x h = omega arith
-get_inside (y ∷ xs) (suc n) x h = let less = get_inside xs n x h in omega arith
-
 none_holds : (ws : List Worker) → AllByRecursion (λ worker. worker ≡ Over) ws → (w : ℕ) → slice_index_or ws w Over ≡ Over
 none_holds [] all w = refl
 none_holds (x ∷ ws) all zero = all.0
@@ -96,7 +92,7 @@ module _ {S O G : Type 0} where
 -- each place has an end
 pub ends_are_there : (jobs : List Job) (settings : Settings) (m : Machine) → IsSound jobs settings m → 1 ≤ length m.workers → AllByRecursion (λ worker. worker ≡ Over) m.workers → All (λ end. IsSome end) m.ends
 ends_are_there jobs settings m sound some over = all_by (λ end. IsSome end) m.ends (λ n end at.
-    let inside : n < length jobs = subst (λ z. n < z) sound.jobs_ends (get_inside m.ends n end at) in
+    let inside : n < length jobs = subst (λ z. n < z) sound.jobs_ends (slice_get_within m.ends n end at) in
     let has = over_ends jobs settings m sound some over n inside in
     let is : end ≡ Some has.0 = let a = has.1.0 in cc in
     subst (λ z. IsSome z) (sym is) refl)

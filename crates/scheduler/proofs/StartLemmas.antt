@@ -1,17 +1,16 @@
 -- What a run leaves of a store of which nothing was asked before it.
-use Rattle.std.proofs.Common.{◌≡◌, ℕ, false, List, [], ◌∷◌, refl, ap, sym, ◌∙◌, subst}
+use Rattle.std.proofs.Common.{◌≡◌, ℕ, List, [], ◌∷◌, ap, sym, ◌∙◌, subst}
 use Rattle.std.specs.Prelude.{All}
 use Rattle.std.proofs.lemmas.List.Elements.{All-nil}
 use Rattle.scan_model.specs.declared.command.Settings.{Settings}
 use Rattle.scan_model.specs.declared.command.Job.{Job}
 use Rattle.scan_model.specs.Files.{FileMap}
-use Rattle.shard_cache.specs.Rows.{ShardView, all_asked, paths_of}
+use Rattle.shard_cache.specs.Rows.{ShardView, all_asked}
 use Rattle.shard_cache.specs.StoreMap.{HaveRows, IsOneMap, IsUntouched}
 use Rattle.shard_cache.specs.StoreRun.{ask_all}
 use Rattle.shard_cache.specs.Ends.{IsLookedAt}
 use Rattle.shard_cache.proofs.MapLemmas.{IsUntouched-IsOneMap, IsUntouched-HaveRows}
 use Rattle.scheduler.specs.Asks.{AsksForLooks}
-use Rattle.scheduler.specs.Order.{has_row, without_row, IsInOrder}
 use Rattle.scheduler.proofs.StoreGrowth.{all_asked_all, asked_added}
 
 module _ {S O G : Type 0} (old new : List (ShardView S O G)) (untouched : IsUntouched old) where
@@ -31,14 +30,3 @@ module _ {S O G : Type 0} (old new : List (ShardView S O G)) (untouched : IsUnto
       let asks = h.extended.asks in
       let before : All P (all_asked old) = subst (λ z. All P z) (sym untouched.nothing_asked) (All-nil P) in
       subst (λ z. All P z) (sym (ap (λ (z : List (ShardView S O G)). all_asked z) h.extended.is ∙ asked_added h.extended.rows (ask_all asks old))) (all_asked_all P asks old h.looks before)
-
-  has_none : (path : List ℕ) → has_row old path ≡ false
-  has_none path = rw untouched.no_row refl
-
-  all_without : (paths : List (List ℕ)) → without_row old paths ≡ paths
-  all_without [] = refl
-  all_without (path ∷ paths) = let none = has_none path in rw none (ap (λ z. path ∷ z) (all_without paths))
-
-  -- the rows stand in the order in which the schedule publishes them
-  pub untouched_order : (files : FileMap (List ℕ)) (jobs : List Job) (settings : Settings) (workers number : ℕ) → (h : IsInOrder files jobs settings workers number old new) → paths_of h.rows ≡ h.last.published
-  untouched_order files jobs settings workers number h = h.in_order ∙ all_without h.last.published

@@ -10,12 +10,7 @@ use Rattle.shard_cache.specs.StoreRun.{ask_all, add_all, IsGivenRow, IsExtended}
 use Rattle.shard_cache.proofs.RowLemmas.{All-parts}
 use Rattle.shard_cache.proofs.StoreLemmas.{all_rows-asked, all_origins-asked, all_origins-kept, IsStore-differ, All-kept}
 use Rattle.shard_cache.proofs.Inserting.{Inserted, All-insert, AllDiffer-inserted, flat_map-change_at}
-use Rattle.shard_cache.proofs.MapLemmas.{given_asked}
-
-change_length : {A : Type 0} (f : A → A) (k : ℕ) (xs : List A) → length (change_at f k xs) ≡ length xs
-change_length f k [] = refl
-change_length f zero (x ∷ xs) = refl
-change_length f (suc k) (x ∷ xs) = ap (λ n. suc n) (change_length f k xs)
+use Rattle.shard_cache.proofs.MapLemmas.{given_asked, length-change_at}
 
 -- ## Rows and asked paths
 
@@ -56,11 +51,11 @@ module _ {S O G : Type 0} where
 
   length_asked : (asks : List (List ℕ)) (ss : List (ShardView S O G)) → length (ask_all asks ss) ≡ length ss
   length_asked [] ss = refl
-  length_asked (path ∷ asks) ss = length_asked asks (change_at (asked_also path) (shard_number path) ss) ∙ change_length (asked_also path) (shard_number path) ss
+  length_asked (path ∷ asks) ss = length_asked asks (change_at (asked_also path) (shard_number path) ss) ∙ length-change_at (asked_also path) (shard_number path) ss
 
   length_added : (rows : List (KeptRow S O G)) (ss : List (ShardView S O G)) → length (add_all rows ss) ≡ length ss
   length_added [] ss = refl
-  length_added (row ∷ rows) ss = length_added rows (change_at (kept_also row) (shard_number row.path) ss) ∙ change_length (kept_also row) (shard_number row.path) ss
+  length_added (row ∷ rows) ss = length_added rows (change_at (kept_also row) (shard_number row.path) ss) ∙ length-change_at (kept_also row) (shard_number row.path) ss
 
   module _ (gp : G → List ℕ) (go : G → ℕ) (old new : List (ShardView S O G)) (h : IsExtended gp go old new) where
     -- a store has as many shards then as before
@@ -99,7 +94,7 @@ module _ {S O G : Type 0} where
       let small : sum path % 16 < 16 = omega arith in
       let inserted : Inserted path (all_asked shards) (all_asked (change_at (asked_also path) k shards)) =
       flat_map-change_at (λ (s : ShardView S O G). s.asked) (asked_also path) path k shards (λ s. refl) (subst (λ n. k < n) (sym sixteen) small) in
-      asks_differ paths (change_at (asked_also path) k shards) (change_length (asked_also path) k shards ∙ sixteen)
+      asks_differ paths (change_at (asked_also path) k shards) (length-change_at (asked_also path) k shards ∙ sixteen)
       (AllDiffer-inserted (all_asked shards) (all_asked (change_at (asked_also path) k shards)) path inserted differ (All-head (λ path. All (λ q. q ≢ path) (all_asked shards)) path paths others)) once.1
       (each_stays path (all_asked shards) (all_asked (change_at (asked_also path) k shards)) inserted paths once.0 (All-tail (λ path. All (λ q. q ≢ path) (all_asked shards)) path paths others))
 
@@ -157,7 +152,7 @@ module _ {S O G : Type 0} where
       let next = change_at (asked_also path) k ss in
       All-cons (λ p. Contains (asked_at (ask_all paths next) (shard_number p)) p) path paths
       (asked_on paths next k path (asked_here path k ss (small path ss sixteen)))
-      (asked_in paths next (change_length (asked_also path) k ss ∙ sixteen))
+      (asked_in paths next (length-change_at (asked_also path) k ss ∙ sixteen))
 
   origins_on : (paths : List (List ℕ)) (ss : List (ShardView S O G)) → all_origins (ask_all paths ss) ≡ all_origins ss
   origins_on [] ss = refl
@@ -252,7 +247,7 @@ module _ {S O G : Type 0} where
       let next = change_at (kept_also row) k ss in
       All-cons (λ p. Contains (paths_of (rows_at (add_all rows next) (shard_number p))) p) row.path (paths_of rows)
       (rows_on rows next k row.path (row_here row k ss (small row.path ss sixteen)))
-      (rows_in rows next (change_length (kept_also row) k ss ∙ sixteen))
+      (rows_in rows next (length-change_at (kept_also row) k ss ∙ sixteen))
 
 module _ {S O G : Type 0} (P : List ℕ → Type 0) where
   -- the path has its row in this shard, or is of the shard of this number, and P holds of it

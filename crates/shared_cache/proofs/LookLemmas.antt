@@ -1,27 +1,20 @@
 -- What a step at a shard's lock leaves and tells.
-use Rattle.std.proofs.Common.{◌≡◌, ◌≢◌, ℕ, List, [], ◌∷◌, ◌++◌, Result, Ok, Err, refl, sym, ap, ◌∙◌, subst, inl, inr, append_assoc}
+use Rattle.std.proofs.Common.{◌≡◌, ◌≢◌, ℕ, List, [], ◌∷◌, ◌++◌, Result, Ok, Err, sym, ap, ◌∙◌, subst, append_assoc}
 use Rattle.std.proofs.lemmas.List.Elements.{All-append}
 use Rattle.scan_model.specs.declared.memory.NoMemory as want
 use Rattle.scan_model.specs.declared.Outcome.{Outcome}
-use Rattle.turn_lock.specs.Logs.{Fits, Follows}
+use Rattle.turn_lock.specs.Logs.{Fits}
 use Rattle.shard_cache.specs.Rows.{shard_number}
 use Rattle.cache_desk.specs.declared.entry.Entry.{Entry}
 use Rattle.cache_desk.specs.declared.desk.Found.{Found}
 use Rattle.cache_desk.specs.declared.desk.Found.TheVariants as FoundIs
-use Rattle.cache_desk.specs.Log.{Claimed, claim, maker, standing, HasClaim}
+use Rattle.cache_desk.specs.Log.{maker}
 use Rattle.cache_desk.specs.Desk.{DeskView, Looks, log_of, fixed_of}
 use Rattle.cache_desk.specs.Desk.{row_published}
 use Rattle.shared_cache.specs.Cache.{LookAt, SeesLook, SeesEntry}
 use Rattle.shard_cache.specs.declared.KeptRow.{KeptRow}
 
 module _ {S O G : Type 0} (outcome : G → Outcome) (bytes : G → List ℕ) (opener_path : O → List ℕ) (opener_origin : O → ℕ) where
-  pub look_follows : (path : List ℕ) (by : ℕ) (x y : DeskView S O G) (r : Result (Found S O G) want.NoMemory)
-      → Looks outcome bytes opener_path opener_origin path by x r y → Follows maker by (log_of outcome bytes x) (log_of outcome bytes y) × (fixed_of y ≡ fixed_of x)
-  look_follows path by x y (Ok (FoundIs.Done answer)) l = (inl (ap (log_of outcome bytes) l.0), ap fixed_of l.0)
-  look_follows path by x y (Ok (FoundIs.Mine claimed opener)) l = (inr (claim path by, l.1, refl), l.2)
-  look_follows path by x y (Ok FoundIs.Busy) l = (inl (ap (log_of outcome bytes) l.0), ap fixed_of l.0)
-  look_follows path by x y (Err e) l = (inl (ap (log_of outcome bytes) l), ap fixed_of l)
-
   pub look_sees : (path : List ℕ) (by : ℕ) (fixed : List ℕ) (x y : DeskView S O G) (r : Result (Found S O G) want.NoMemory)
       → shard_number path ≡ x.number → fixed_of x ≡ fixed → Looks outcome bytes opener_path opener_origin path by x r y → LookAt opener_path opener_origin path by fixed (log_of outcome bytes x) r (log_of outcome bytes y)
   look_sees path by fixed x y (Ok (FoundIs.Done answer)) placed is l = (ap (log_of outcome bytes) l.0, l.1)
@@ -47,10 +40,6 @@ module _ {S O G : Type 0} (outcome : G → Outcome) (bytes : G → List ℕ) (op
       let to = subst (λ z. Looks outcome bytes opener_path opener_origin path by x r z) leaves from in
       subst (λ l. LookAt opener_path opener_origin path by fixed (log_of outcome bytes x) r l) (sym after_is)
       (look_sees path by fixed x y r (number_at x fixed (shard_number path) origin is at) is to)
-
--- what the passes have seen of their own claim holds on each log that fits them
-pub has_claim : (by : ℕ) (path : List ℕ) (before log : List Entry) → standing before path ≡ Claimed by → Fits maker by before log → HasClaim by path log
-has_claim by path before log is fits = (before, fits, is)
 
 -- the same look and the same publication, by equal numbers and lists
 pub sees_look_at : {S O G : Type 0} (op : O → List ℕ) (oo : O → ℕ) (path : List ℕ) (r : Result (Found S O G) want.NoMemory) (by by' : ℕ) (fixed fixed' : List ℕ) (before before' after after' : List Entry)

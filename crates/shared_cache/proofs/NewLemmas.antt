@@ -5,7 +5,7 @@ use Rattle.std.specs.List.{Any}
 use Rattle.std.specs.declared.alloc.Global.{Global}
 use Rattle.std.proofs.lemmas.List.{append_assoc, append-nil, map-append, reverse-append, nil_from_length}
 use Rattle.std.proofs.lemmas.List.Elements.{All-nil, All-head, All-tail}
-use Rattle.std.proofs.lemmas.Option.{slice_get-get_or}
+use Rattle.std.proofs.lemmas.Option.{slice_get-get_or, same_Some}
 use Rattle.scan_model.specs.declared.Outcome.{Outcome}
 use Rattle.turn_lock.specs.declared.Logged.{Ghosts}
 use Rattle.turn_lock.specs.declared.lock.Pass.{Pass}
@@ -13,21 +13,20 @@ use Rattle.turn_lock.specs.declared.lock.TurnLock.{TurnLock}
 use Rattle.turn_lock.specs.Passes.{pass_count}
 use Rattle.shard_cache.specs.Rows.{ShardView, all_asked, all_rows, all_origins}
 use Rattle.shard_cache.specs.StoreMap.{IsUntouched}
+use Rattle.shard_cache.proofs.MapLemmas.{append-nil_parts}
 use Rattle.cache_desk.specs.declared.entry.Entry.{Entry}
 use Rattle.cache_desk.specs.declared.desk.Desk.{Desk}
 use Rattle.cache_desk.specs.Log.{claim}
 use Rattle.cache_desk.specs.Desk.{DeskView, row_published, shard_of_desk}
 use Rattle.shared_cache.specs.declared.cache.Passes.{Passes}
-use Rattle.shared_cache.specs.Shared.{ArePasses, HavePasses, HaveRoom, second, locks_fixed, all_seen, seen_of_shard}
+use Rattle.shared_cache.specs.Shared.{ArePasses, HavePasses, second, locks_fixed, all_seen, seen_of_shard}
 use Rattle.shared_cache.specs.Opening.{AreDealt}
 use Rattle.shared_cache.specs.Hands.{AreMade}
 use Rattle.shared_cache.specs.Closing.{IsClosed, AreClosed, views_at}
 use Rattle.shared_cache.proofs.ClosedLemmas.{any_map}
 
 get_push : {X : Type 0} (xs : List X) (x y : X) (k : ℕ) → slice_get (xs ++ x ∷ []) k ≡ Some y → (slice_get xs k ≡ Some y) ⊎ ((k ≡ length xs) × (x ≡ y))
-get_push [] x y zero at = inr (refl, some_is x y at) where
-  some_is : {A : Type 0} (a b : A) → Some a ≡ Some b → a ≡ b
-  some_is a b e = cc
+get_push [] x y zero at = inr (refl, same_Some x y at)
 get_push [] x y (suc k) at = cc
 get_push (z ∷ xs) x y zero at = inl at
 get_push (z ∷ xs) x y (suc k) at =
@@ -73,10 +72,6 @@ module _ {S O G E : Type 0} {g : Ghosts (Desk S O G) E} where
 abbrev AreBare : {S O G : Type 0} → List (ShardView S O G) → Type 0
 AreBare [] = Unit {0}
 AreBare (s ∷ ss) = ((s.asked ≡ []) × (s.rows ≡ [])) × AreBare ss
-
-append-nil_parts : {A : Type 0} (xs ys : List A) → xs ++ ys ≡ [] → (xs ≡ []) × (ys ≡ [])
-append-nil_parts [] ys e = (refl, e)
-append-nil_parts (x ∷ xs) ys e = cc
 
 module _ {S O G : Type 0} where
   bare_store : (ss : List (ShardView S O G)) → all_asked ss ≡ [] → all_rows ss ≡ [] → AreBare ss
@@ -145,7 +140,7 @@ module _ {S O G : Type 0} where
 
 -- ## Locks that are closed before anything happened
 
-nothing_at : {X : Type 0} (logs : List (List X)) (k : ℕ) → All (λ log. log ≡ []) logs → get_or logs k [] ≡ []
+pub nothing_at : {X : Type 0} (logs : List (List X)) (k : ℕ) → All (λ log. log ≡ []) logs → get_or logs k [] ≡ []
 nothing_at [] k none = refl
 nothing_at (log ∷ logs) zero none = All-head (λ l. l ≡ []) log logs none
 nothing_at (log ∷ logs) (suc k) none = nothing_at logs k (All-tail (λ l. l ≡ []) log logs none)

@@ -7,6 +7,7 @@ use Rattle.scan_model.specs.declared.Outcome.{Outcome}
 use Rattle.scan_model.specs.TokenTests.{same}
 use Rattle.shard_cache.specs.declared.KeptRow.{KeptRow}
 use Rattle.shard_cache.specs.Rows.{shard_number, paths_of, AllDiffer}
+use Rattle.shard_cache.proofs.PlaceLemmas.{same_itself}
 use Rattle.cache_desk.specs.declared.entry.Entry.{Entry}
 use Rattle.cache_desk.specs.declared.entry.Event.{Event}
 use Rattle.cache_desk.specs.declared.entry.Event.TheVariants as EventIs
@@ -14,7 +15,7 @@ use Rattle.cache_desk.specs.declared.happened.Happened.{Happened}
 use Rattle.cache_desk.specs.declared.happened.Happened.TheVariants as HappenedIs
 use Rattle.cache_desk.specs.Log.{Standing, Free, Done, claim, publication, left_by, after, MayFollow, MayBe, IsLegalFor, IsLegal, claims, claims_and}
 use Rattle.cache_desk.specs.Desk.{IsSound, row_outcome, row_published, entries, rows_in}
-use Rattle.cache_desk.proofs.LogLemmas.{same_itself, done_stays_from}
+use Rattle.cache_desk.proofs.LogLemmas.{done_stays_from}
 use Rattle.shared_cache.specs.Closing.{IsKeptIn}
 
 further : {X : Type 0} (x y : X) (xs : List X) → Contains xs x → Contains (y ∷ xs) x

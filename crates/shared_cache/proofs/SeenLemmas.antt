@@ -8,7 +8,7 @@ use Rattle.cache_desk.specs.declared.entry.Event.{Event}
 use Rattle.cache_desk.specs.declared.entry.Event.TheVariants as EventIs
 use Rattle.cache_desk.specs.Log.{Standing, Free, Claimed, Done, claim, publication, left_by, after, standing_from, standing, MayFollow, MayBe, IsLegalFor, IsLegal}
 use Rattle.shared_cache.specs.Cache.{HasSeen}
-use Rattle.cache_desk.proofs.LogLemmas.{same_is, same_itself, done_stays_from}
+use Rattle.shard_cache.proofs.PlaceLemmas.{same_itself, same_is}
 
 further : {X : Type 0} (x y : X) (xs : List X) → Contains xs x → Contains (y ∷ xs) x
 further x y xs (k, inside, at) = (suc k, omega arith, at)
@@ -52,18 +52,6 @@ pub done_is_seen : (log : List Entry) (p : List ℕ) (w : ℕ) (o : Outcome) (b 
 done_is_seen log p w o b done = (w, ⊎_elim (λ (h : Free ≡ Done w o b). absurd (free_done h)) (λ (h : Contains log (publication p w o b)). h) (done_from p w o b Free log done)) where
   free_done : Free ≡ Done w o b → ⊥
   free_done h = cc
-
-published_now : (p : List ℕ) (w : ℕ) (o : Outcome) (b : List ℕ) (s : Standing) (e : Entry) → e ≡ publication p w o b → after (same e.path p) s e ≡ Done w o b
-published_now p w o b s e is = ap (λ (f : Entry). after (same f.path p) s f) is ∙ ap (λ t. after t s (publication p w o b)) (same_itself p)
-
-seen_from : (p : List ℕ) (w : ℕ) (o : Outcome) (b : List ℕ) (s : Standing) (es : List Entry) → IsLegalFor p s es → Contains es (publication p w o b) → standing_from s es p ≡ Done w o b
-seen_from p w o b s [] legal (k, inside, at) = absurd (omega arith)
-seen_from p w o b s (e ∷ es) legal (zero, inside, at) = done_stays_from p w o b (after (same e.path p) s e) es (published_now p w o b s e at) legal.1
-seen_from p w o b s (e ∷ es) legal (suc k, inside, at) = seen_from p w o b (after (same e.path p) s e) es legal.1 (k, omega arith, at)
-
--- in a legal log what was published is what the path stands done with, so it is published once
-pub seen_is_done : (log : List Entry) (p : List ℕ) (w : ℕ) (o : Outcome) (b : List ℕ) → IsLegal log → Contains log (publication p w o b) → standing log p ≡ Done w o b
-seen_is_done log p w o b legal has = seen_from p w o b Free log (legal p) has
 
 -- ## A publication's claim
 

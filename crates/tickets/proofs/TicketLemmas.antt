@@ -32,14 +32,14 @@ times_more : (x y : ℕ) (l : List ℕ) → times x (l ++ y ∷ []) ≡ times x 
 times_more x y [] = omega arith
 times_more x y (z ∷ l) = let h = times_more x y l in omega arith
 
-times_append : (x : ℕ) (l m : List ℕ) → times x (l ++ m) ≡ times x l + times x m
-times_append x [] m = omega arith
-times_append x (z ∷ l) m = let h = times_append x l m in omega arith
+pub append_times : (x : ℕ) (l m : List ℕ) → times x (l ++ m) ≡ times x l + times x m
+append_times x [] m = omega arith
+append_times x (z ∷ l) m = let h = append_times x l m in omega arith
 
-hit : (x y : ℕ) → x ≡ y → one_if (nat_eq x y) ≡ 1
+pub hit : (x y : ℕ) → x ≡ y → one_if (nat_eq x y) ≡ 1
 hit x y e = ap one_if (eq-eqb x y e)
 
-miss : (x y : ℕ) → x ≢ y → one_if (nat_eq x y) ≡ 0
+pub miss : (x y : ℕ) → x ≢ y → one_if (nat_eq x y) ≡ 0
 miss x y n = ap one_if (ne_eqb x y n)
 
 -- a number of the list stands in it
@@ -143,7 +143,7 @@ joins {S = S} workers id other v w s r at apart at2 =
     let l = length-append w.drawn v.drawn in
     let counts : total count_of us ≡ total count_of s.views = (let a = total_set count_of s.views id v both at in let b = total_set count_of vs other w spent at2 in omega arith) in
     let same_times : (x : ℕ) → total (times_of x) us ≡ total (times_of x) s.views =
-    (λ x. let a = total_set (times_of x) s.views id v both at in let b = total_set (times_of x) vs other w spent at2 in let c = times_append x w.drawn v.drawn in omega arith) in
+    (λ x. let a = total_set (times_of x) s.views id v both at in let b = total_set (times_of x) vs other w spent at2 in let c = append_times x w.drawn v.drawn in omega arith) in
     let ev = r.each id v at in
     let ew = r.each other w w_at in
     record {
@@ -198,20 +198,6 @@ closes workers id v s r at all =
       (λ x le. let a = same_times x in let b = r.beyond x (omega arith) in omega arith),
     )
 
--- the rule at the start
-pub starts : {S : Type 0} (workers : ℕ) → workers ≤ 64 → Drawn {S = S} workers (record { words = 0 ∷ []; homes = []; views = hand workers [] ∷ [] })
-starts workers few = record {
-  few = few;
-  word_is = refl;
-  below = λ x lt. absurd (omega arith);
-  beyond = λ x le. refl;
-  places = omega arith;
-  each = λ j v e. first j v e;
-} where
-  first : (j : ℕ) (v : Hand) → get_elem? (hand workers [] ∷ []) j ≡ some v → count_of v ≤ places_of v * 131073
-  first zero v e = let h : 0 ≡ count_of v = ap count_of (some-injective (hand workers []) v e) in omega arith
-  first (suc j) v e = absurd (some-ne-none v (sym e))
-
 -- where a seat stands so, one place may go
 pub splits_at : {S : Type 0} (workers id n : ℕ) (v : Hand) → v ≡ hand n [] → 1 ≤ n → Splits {S = S} (Drawn workers) id v (hand (v.places - 1) []) (hand 1 [])
 splits_at workers id n v is some_places = splits workers id v (ap (λ (z : Hand). z.drawn) is) (let h : v.places ≡ n = ap places_of is in omega arith)
@@ -219,6 +205,3 @@ splits_at workers id n v is some_places = splits workers id v (ap (λ (z : Hand)
 -- one taken from the end of a list
 pub taken : {X : Type 0} (f : X → ℕ) (all left : List X) (x : X) → all ≡ left ++ x ∷ [] → (total f all ≡ total f left + f x) × (length all ≡ length left + 1)
 taken f all left x cut = (ap (total f) cut ∙ total_snoc f left x, ap length cut ∙ length-append left (x ∷ []))
-
-pub append_times : (x : ℕ) (l m : List ℕ) → times x (l ++ m) ≡ times x l + times x m
-append_times = times_append

@@ -1,8 +1,8 @@
 -- Raw strings: the delimiter, and where the string closes.
 use Rattle.std.proofs.Common.{◌≡◌, ℕ, suc, ◌+◌, ◌-◌, ◌<◌, ◌≤◌, Bool, true, false, not, cond, ◌==◌, ◌&&◌, ◌||◌, List, [], ◌∷◌, ◌++◌, refl, ap, sym, ◌∙◌, inl, inr, take, drop, length, get_or, slice_index, arith, Option, Some, None, nat_eq, nat_le, nat_lt}
 use Rattle.std.proofs.Math.Bool.{and_assoc, and-true}
-use Rattle.std.proofs.lemmas.Bool.{and_left, and_right, and_from, eq-eqb, ne_eqb, cases_eq, cases_lt, lt-ltb, le-ltb, le-leb, lt-leb, or_cases, or_parts, not-true, not-false, eqb-true, eqb-false}
-use Rattle.std.proofs.lemmas.List.{at_drop_more, at_drop_all, take_more, append_assoc, append-nil, length-append, length-take-le}
+use Rattle.std.proofs.lemmas.Bool.{and_right, eq-eqb, ne_eqb, cases_eq, cases_lt, lt-ltb, le-ltb, le-leb, lt-leb, or_parts, not-false, eqb-false}
+use Rattle.std.proofs.lemmas.List.{at_drop_more, at_drop_all, take_more, append_assoc, length-append}
 use Rattle.std.specs.Option.{option_map_or}
 use Rattle.std.specs.List.{list_all, starts_with}
 use Rattle.scan_model.specs.Spelling.{is_blank, delimiter, is_delimited, after_word, after_raw, encoding_len, opens_raw, is_suffix, is_raw}
@@ -24,27 +24,10 @@ pub within_all : (s : List ℕ) → is_delimited_within 16 s ≡ is_delimited s
 unfolding is_delimited
 within_all s = refl
 
-delimiter-open : (c : ℕ) (s : List ℕ) → (c == 40) ≡ true → delimiter (c ∷ s) ≡ []
-delimiter-open c s h = rw h refl
-
 delimiter-more : (c : ℕ) (s : List ℕ) → (c == 40) ≡ false → delimiter (c ∷ s) ≡ c ∷ delimiter s
 delimiter-more c s h = rw h (one_more c s _) where
   one_more : (c : ℕ) (s : List ℕ) (k : ℕ) → take (1 + k) (c ∷ s) ≡ c ∷ take k s
   one_more c s k = let e : 1 + k ≡ suc k = omega arith in ap (λ j. take j (c ∷ s)) e
-
-within_open : (n c : ℕ) (s : List ℕ) → (c == 40) ≡ true → is_delimited_within n (c ∷ s) ≡ true
-within_open n c s h = ap (λ d. is_good n d (suc (length s))) (delimiter-open c s h)
-    ∙ and_from (nat_le 0 n && true) (nat_lt 0 (suc (length s))) (and_from (nat_le 0 n) true (le-leb 0 n (omega arith)) refl) (lt-ltb 0 (suc (length s)) (omega arith))
-
-within_zero : (c : ℕ) (s : List ℕ) → (c == 40) ≡ false → is_delimited_within 0 (c ∷ s) ≡ false
-within_zero c s h = let d = delimiter s in ap (λ d. is_good 0 d (suc (length s))) (delimiter-more c s h)
-    ∙ and_left (nat_le (suc (length d)) 0 && list_all may_delimit (c ∷ d)) (nat_lt (suc (length d)) (suc (length s)))
-    (and_left (nat_le (suc (length d)) 0) (list_all may_delimit (c ∷ d)) (lt-leb (suc (length d)) 0 (omega arith)))
-
-within_bad : (n c : ℕ) (s : List ℕ) → (c == 40) ≡ false → may_delimit c ≡ false → is_delimited_within n (c ∷ s) ≡ false
-within_bad n c s h bad = let d = delimiter s in ap (λ d. is_good n d (suc (length s))) (delimiter-more c s h)
-    ∙ and_left (nat_le (suc (length d)) n && list_all may_delimit (c ∷ d)) (nat_lt (suc (length d)) (suc (length s)))
-    (and_right (nat_le (suc (length d)) n) (list_all may_delimit (c ∷ d)) (and_left (may_delimit c) (list_all may_delimit d) bad))
 
 within_more : (n c : ℕ) (s : List ℕ) → (c == 40) ≡ false → may_delimit c ≡ true → is_delimited_within (suc n) (c ∷ s) ≡ is_delimited_within n s
 within_more n c s h good = let d = delimiter s in ap (λ d. is_good (suc n) d (suc (length s))) (delimiter-more c s h)
@@ -71,18 +54,6 @@ within_end n = and_right (nat_le 0 n && true) (nat_lt 0 0) refl
 
 -- ## The same at a place in the text
 
-pub open_here : (n : ℕ) (t : List ℕ) (i : ℕ) → i < length t → get_or t i 0 ≡ 40 → is_delimited_within n (drop i t) ≡ true
-open_here n t i lt e = at_drop_more (is_delimited_within n) t i 0 lt ∙ within_open n (get_or t i 0) (drop (i + 1) t) (eq-eqb (get_or t i 0) 40 e)
-
-pub bad_here : (t : List ℕ) (i : ℕ) → i < length t → (get_or t i 0 ≡ 40 → ⊥) → (i == 16 || not (may_delimit (get_or t i 0))) ≡ true → is_delimited_within (16 - i) (drop i t) ≡ false
-bad_here t i lt ne h = let other : (get_or t i 0 == 40) ≡ false = ne_eqb (get_or t i 0) 40 ne in
-    at_drop_more (is_delimited_within (16 - i)) t i 0 lt
-    ∙ elim (or_cases (i == 16) (not (may_delimit (get_or t i 0))) h) [
-      | inl e ↦ let same : i ≡ 16 = eqb-true i 16 e in let none : 16 - i ≡ 0 = omega arith in
-          ap (λ n. is_delimited_within n (get_or t i 0 ∷ drop (i + 1) t)) none ∙ within_zero (get_or t i 0) (drop (i + 1) t) other
-      | inr e ↦ within_bad (16 - i) (get_or t i 0) (drop (i + 1) t) other (not-true (may_delimit (get_or t i 0)) e)
-    ]
-
 pub good_here : (t : List ℕ) (i : ℕ) → i < length t → i ≤ 16 → (get_or t i 0 ≡ 40 → ⊥) → (i == 16 || not (may_delimit (get_or t i 0))) ≡ false
     → (i + 1 ≤ 16) × (is_delimited_within (16 - i) (drop i t) ≡ is_delimited_within (16 - (i + 1)) (drop (i + 1) t))
 good_here t i lt le ne h =
@@ -102,18 +73,6 @@ pub front_more : (t : List ℕ) (i : ℕ) → i < length t → (get_or t i 0 ≡
 front_more t i lt ne = let c = get_or t i 0 in let rest = delimiter (drop (i + 1) t) in
     ap (λ f. f ++ rest) (take_more t i 0 lt) ∙ append_assoc (take i t) (c ∷ []) rest
     ∙ ap (λ d. take i t ++ d) (sym (at_drop_more delimiter t i 0 lt ∙ delimiter-more c (drop (i + 1) t) (ne_eqb c 40 ne)))
-
--- the first `(` stands here, behind a good delimiter
-pub divides : (t d inside : List ℕ) (i : ℕ) → i < length t → get_or t i 0 ≡ 40 → take i t ++ delimiter (drop i t) ≡ delimiter t → is_delimited_within (16 - i) (drop i t) ≡ is_delimited t
-    → d ≡ take i t → inside ≡ drop (i + 1) t → Divides t d inside
-divides t d inside i lt e front same d_is inside_is =
-    let none : delimiter (drop i t) ≡ [] = at_drop_more delimiter t i 0 lt ∙ delimiter-open (get_or t i 0) (drop (i + 1) t) (eq-eqb (get_or t i 0) 40 e) in
-    let len : length d ≡ i = ap length d_is ∙ length-take-le i t (omega arith) in
-    record {
-      good = sym same ∙ open_here (16 - i) t i lt e;
-      is_delimiter = d_is ∙ sym (append-nil (take i t)) ∙ ap (λ r. take i t ++ r) (sym none) ∙ front;
-      is_inside = inside_is ∙ ap (λ k. drop (k + 1) t) (sym len);
-    }
 
 -- ## Where it closes
 

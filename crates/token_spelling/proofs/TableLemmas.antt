@@ -10,7 +10,7 @@ use Rattle.scan_model.proofs.LongestLemmas.{pointwise_same}
 use Rattle.word_table.specs.Rows.{Entry, value_of, has_word, longer, match_of, longest_row}
 use Rattle.word_table.specs.Tables as table
 
-found_any : {A B : Type 0} (f : A → B) (p : A → Bool) (xs : List A) → is_some (option_map f (find p xs)) ≡ list_any p xs
+pub found_any : {A B : Type 0} (f : A → B) (p : A → Bool) (xs : List A) → is_some (option_map f (find p xs)) ≡ list_any p xs
 found_any f p [] = refl
 found_any f p (x ∷ xs) = elim (p x) as (λ b. is_some (option_map f (cond b (Some x) (find p xs))) ≡ (b || list_any p xs)) [ true ↦ refl | false ↦ found_any f p xs ]
 

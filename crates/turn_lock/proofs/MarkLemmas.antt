@@ -67,9 +67,6 @@ module _ {X : Type 0} where
   at_within (y ∷ ys) zero x e = omega arith
   at_within (y ∷ ys) (suc i) x e = let h = at_within ys i x e in omega arith
 
-  pub same_at : (xs : List X) (i : ℕ) (x y : X) → get_elem? xs i ≡ some x → get_elem? xs i ≡ some y → x ≡ y
-  same_at xs i x y a b = some-injective x y (sym a ∙ b)
-
   pub seats_stay : (K : ℕ → X → Type 0) (vs : List X) (me : ℕ) (w : X) → K me w → ((j : ℕ) (d : X) → j ≢ me → get_elem? vs j ≡ some d → K j d)
       → (j : ℕ) (d : X) → get_elem? (set vs me w) j ≡ some d → K j d
   seats_stay K vs me w mine others j d e = ⊎_elim (λ (t : (j ≡ me) × (w ≡ d)). subst (λ (x : ℕ × X). K x.0 x.1) (λ i. (sym t.0 i, t.1 i)) mine)

@@ -26,9 +26,6 @@ module _ {T E : Type 0} (log_of : T → List E) (number_fixed : T → List ℕ) 
   abbrev Rule : St → Type 0
   Rule = Ruled log_of number_fixed maker first fixed passes
 
-  idle_view : List (Mark E) → V
-  idle_view ms = view ms Idle false
-
   -- where an idle seat changes, no other seat's part in the phase does
   phase_idle : (log : List E) (vs : List V) (p : Phase T) (id : ℕ) (old w : V) → get_elem? vs id ≡ some old → old.stage ≡ Idle → old.opening ≡ false → PhaseOk log_of number_fixed maker fixed log vs p → PhaseOk log_of number_fixed maker fixed log (set vs id w) p
   phase_idle log vs fresh id old w at idle shut (v, all, o, seen) =

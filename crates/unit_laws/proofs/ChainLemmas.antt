@@ -5,6 +5,7 @@ use Rattle.std.specs.Option.{option_map_or}
 use Rattle.std.proofs.lemmas.List.{drop-drop, drop-map}
 use Rattle.std.proofs.Math.Seq.{drop-append-add}
 use Rattle.std.proofs.lemmas.Slice.Eq.{bytes_eq-Decides}
+use Rattle.std.proofs.lemmas.Option.{same_Some}
 use Rattle.scan_model.specs.declared.command.Form.{Form}
 use Rattle.scan_model.specs.declared.command.Form.TheVariants.{Quoted, Angled, Next}
 use Rattle.scan_model.specs.declared.command.SearchList.{SearchList}
@@ -24,22 +25,19 @@ placed_are_candidates list program form from name = numbered_paths (place list f
 
 -- ## Going on
 
-some_same : (k n : ℕ) → Some k ≡ Some n → k ≡ n
-some_same k n h = ap (λ o. option_map_or (λ x. x) o 0) h
-
 next_folders : (list : SearchList) (program : List (List ℕ)) (form : Form) (from : List ℕ) (k n : ℕ) → folder_place list form k ≡ Some n →
     drop n (chain list program) ≡ drop (k + 1) (folders list program form from)
 next_folders list program Angled from k n h =
-    let at : n ≡ length list.quote + (k + 1) = omega (arith, some_same (length list.quote + k + 1) n h) in
+    let at : n ≡ length list.quote + (k + 1) = omega (arith, same_Some (length list.quote + k + 1) n h) in
     ap (λ z. drop z (chain list program)) at
     ∙ drop-append-add list.quote (angled_folders list program) (k + 1)
 next_folders list program Quoted from zero n h = absurd (cc)
 next_folders list program Quoted from (suc k) n h =
     let behind : suc (k + 1) ≡ suc k + 1 = omega arith in
-    ap (λ z. drop z (chain list program)) (sym (some_same (k + 1) n h))
+    ap (λ z. drop z (chain list program)) (sym (same_Some (k + 1) n h))
     ∙ ap (λ z. drop z (from ∷ chain list program)) behind
 next_folders list program (Next m) from k n h =
-    let at : n ≡ m + (k + 1) = omega (arith, some_same (m + k + 1) n h) in
+    let at : n ≡ m + (k + 1) = omega (arith, same_Some (m + k + 1) n h) in
     ap (λ z. drop z (chain list program)) at
     ∙ sym (drop-drop (k + 1) m (chain list program))
 

@@ -111,9 +111,6 @@ module _ (X : Type 0) (more : FileMap X) where
   grow_if looked true e e' f f' h h' = h
   grow_if looked false e e' f f' h h' = h'
 
-  abbrev pub Further : Type 0
-  Further = Core → Effect X
-
   pub grow_expanded : (c : Core) (l : Line) (g h : List Tok → Effect X) → ((ts : List Tok) → Grows c.looked (g ts) (h ts)) →
       (answer : Expanded) → Grows c.looked (on_expanded c l g answer) (on_expanded c l h answer)
   grow_expanded c l g h each (Gives.Done toks counter) = each toks

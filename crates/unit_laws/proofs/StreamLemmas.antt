@@ -5,6 +5,7 @@ use Rattle.std.specs.Option.{option_map_or}
 use Rattle.std.specs.List.{list_any, AllByRecursion}
 use Rattle.std.specs.declared.result.Result.{Result}
 use Rattle.std.specs.declared.result.Result.TheVariants.{Ok, Err}
+use Rattle.std.proofs.lemmas.Bool.{or_parts}
 use Rattle.scan_model.specs.declared.token.Kind.TheVariants.{ExportKw, LineEnd}
 use Rattle.scan_model.specs.declared.token.Tok.{Tok}
 use Rattle.scan_model.specs.declared.module_line.Keyword.{Keyword}
@@ -22,10 +23,6 @@ Answers = Result Builder Fault
 
 -- ## Tokens that are no keywords
 
-neither : (a b : Bool) → (a || b) ≡ false → (a ≡ false) × (b ≡ false)
-neither true b h = absurd (cc)
-neither false b h = (refl, h)
-
 -- no keyword and no `export` before one
 abbrev Silent : List Tok → Type 0
 Silent toks = AllByRecursion (λ t. (is_keyword t.kind ≡ false) × (is_of ExportKw t ≡ false)) toks
@@ -36,9 +33,9 @@ Unended toks = AllByRecursion (λ t. is_of LineEnd t ≡ false) toks
 silent : (toks : List Tok) → list_any (λ t. is_stream_kind t.kind) toks ≡ false → Silent toks × Unended toks
 silent [] h = (tt, tt)
 silent (t ∷ toks) h =
-    let split = neither (is_keyword t.kind || is_of ExportKw t || is_of LineEnd t) _ h in
-    let kinds = neither (is_keyword t.kind || is_of ExportKw t) (is_of LineEnd t) split.0 in
-    let words = neither (is_keyword t.kind) (is_of ExportKw t) kinds.0 in
+    let split = or_parts (is_keyword t.kind || is_of ExportKw t || is_of LineEnd t) _ h in
+    let kinds = or_parts (is_keyword t.kind || is_of ExportKw t) (is_of LineEnd t) split.0 in
+    let words = or_parts (is_keyword t.kind) (is_of ExportKw t) kinds.0 in
     let rest = silent toks split.1 in
     ((words, rest.0), (kinds.1, rest.1))
 

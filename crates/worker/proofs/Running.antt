@@ -20,7 +20,7 @@ use Rattle.cache_desk.specs.declared.entry.Entry.{Entry}
 use Rattle.worker.specs.Seen.{IsSeen, AreSeen}
 use Rattle.worker.specs.Claims.{GoesOn}
 use Rattle.worker.specs.Work.{IsEndOver, IsLooked}
-use Rattle.worker.proofs.Seeing.{agrees_of_seen, answers_further, answers_more, goes_same, goes_chain, goes_wider}
+use Rattle.worker.proofs.Seeing.{agrees_of_seen, answers_further, answers_more, goes_chain, goes_wider}
 
 contains_begun : (paths others : List (List ℕ)) (path : List ℕ) → Begins paths others → Contains paths path → Contains others path
 contains_begun paths others path begins c =
@@ -49,10 +49,6 @@ end_at_end settings command answers (Over end) files over fits agrees = inl (fit
 end_at_end settings command answers Spent files over fits agrees = inr refl
 end_at_end settings command answers Runs files over fits agrees = absurd over
 end_at_end settings command answers (Asks p) files over fits agrees = absurd over
-
--- want of memory is an end
-pub no_memory_end : (settings : Settings) (job : Job) (seen : List (List Entry)) → IsEndOver settings job seen Ends.NoMemory
-no_memory_end settings job seen files rows = inr refl
 
 -- a job that is refused ends so
 pub refused_end : (settings : Settings) (job : Job) (seen : List (List Entry)) (fault : CommandFault) → job ≡ Refused fault → IsEndOver settings job seen (Ends.Refused fault)
@@ -95,14 +91,6 @@ module _ (settings : Settings) (command : Command) (by : ℕ) where
     pub command_is : u.command ≡ command
     pub settings_is : u.settings ≡ settings
     pub run : HasRun by u.answers began now
-
-  -- it begins
-  pub running_begins : (u : UnitView) (seen : List (List Entry)) → u.command ≡ command → u.settings ≡ settings → u.answers ≡ [] → IsRunning u seen seen
-  running_begins u seen command_is settings_is none = record {
-    command_is = command_is;
-    settings_is = settings_is;
-    run = subst (λ z. HasRun by z seen seen) (sym none) record { seen = tt; goes = goes_same by (λ path. Contains [] path) seen };
-  }
 
   -- a turn asks nothing of the cache
   pub running_turned : (u v : UnitView) (began now : List (List Entry)) → IsSameScan u v → IsRunning u began now → IsRunning v began now

@@ -15,12 +15,12 @@ use Rattle.unit_laws.specs.KnownAnswers.{Agrees}
 use Rattle.cache_desk.specs.declared.entry.Entry.{Entry}
 use Rattle.cache_desk.specs.Log.{publication}
 use Rattle.cache_desk.specs.Desk.{told}
-use Rattle.cache_desk.proofs.LogLemmas.{same_is}
 use Rattle.shared_cache.specs.Cache.{HasSeen}
 use Rattle.shared_cache.specs.Shared.{seen_of, HasRowsOf}
 use Rattle.answer_memo.specs.Memo.{known_to, IsKnownFurther}
 use Rattle.worker.specs.Seen.{HasPublication, IsSeen, IsMemoOf, AreSeen, SeesFurther}
 use Rattle.worker.specs.Claims.{HasClaimed, GoesOn}
+use Rattle.shard_cache.proofs.PlaceLemmas.{same_is}
 
 -- ## What was seen goes on
 
@@ -100,9 +100,6 @@ memo_more seen old new path told_one is has (inr more) other c at =
     ]
 
 -- ## What was claimed
-
-pub goes_same : (by : ℕ) (wanted : List ℕ → Type 0) (seen : List (List Entry)) → GoesOn by wanted seen seen
-goes_same by wanted seen = record { further = further_same seen; published = λ h. h; claims = λ path c. inl c }
 
 pub goes_chain : (by : ℕ) (wanted : List ℕ → Type 0) (a b c : List (List Entry)) → GoesOn by wanted a b → GoesOn by wanted b c → GoesOn by wanted a c
 goes_chain by wanted a b c first second = record {

@@ -3,7 +3,7 @@ use Rattle.std.proofs.Common.{◌≡◌, ◌<◌, ◌≤◌, ◌+◌, ℕ, List,
 use Rattle.std.specs.Prelude.{slice_get}
 use Rattle.std.proofs.lemmas.List.{map-append, length-append, length-map}
 use Rattle.std.proofs.lemmas.Option.{slice_get_within, get_or_from_slice_get}
-use Rattle.std.proofs.lemmas.List.Elements.{All-nil, All-cons, All-push, All-weaker, All-head, All-tail}
+use Rattle.std.proofs.lemmas.List.Elements.{All-nil, All-push, All-weaker, All-head, All-tail}
 use Rattle.scan_model.specs.declared.command.Settings.{Settings}
 use Rattle.scan_model.specs.declared.command.Job.{Job}
 use Rattle.scan_model.specs.declared.UnitEnd.{UnitEnd}
@@ -14,11 +14,6 @@ use Rattle.cache_desk.specs.declared.entry.Entry.{Entry}
 use Rattle.worker.specs.Claims.{HasClaimed, GoesOn}
 use Rattle.worker.specs.Work.{IsEndOver, IsLooked, IsEndOf, AreSpent}
 use Rattle.worker.proofs.Seeing.{rows_before}
-
--- all of a list and of one element more
-all_before : (P : ℕ → Type 0) (xs : List ℕ) (x : ℕ) → All P (xs ++ x ∷ []) → All P xs
-all_before P [] x all = All-nil P
-all_before P (y ∷ xs) x all = All-cons P y xs (All-head P y (xs ++ x ∷ []) all) (all_before P xs x (All-tail P y (xs ++ x ∷ []) all))
 
 all_last : (P : ℕ → Type 0) (xs : List ℕ) (x : ℕ) → All P (xs ++ x ∷ []) → P x
 all_last P [] x all = All-head P x [] all

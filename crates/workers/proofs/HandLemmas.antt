@@ -1,23 +1,20 @@
 -- What holds of the workers' things holds of their hands.
-use Rattle.std.proofs.Common.{◌≡◌, ◌≤◌, ℕ, List, [], ◌∷◌, ◌++◌, map, reverse, length, All, Contains, get_or, refl, sym, ap, ◌∙◌, subst, arith}
-use Rattle.std.proofs.lemmas.List.{reverse-reverse, reverse-append, length-reverse, length-map}
-use Rattle.std.proofs.lemmas.List.Elements.{All-nil, All-cons, All-head, All-tail, All-weaker, All-push, All-map}
+use Rattle.std.proofs.Common.{◌≡◌, ◌≤◌, ℕ, List, [], ◌∷◌, ◌++◌, reverse, All, sym, ◌∙◌, subst}
+use Rattle.std.proofs.lemmas.List.{reverse-reverse, reverse-append}
+use Rattle.std.proofs.lemmas.List.Elements.{All-nil, All-head, All-tail, All-weaker, All-push}
 use Rattle.file_source.specs.declared.source.Source as source
 use Rattle.turn_lock.specs.declared.Logged as logged
-use Rattle.scan_model.specs.declared.command.Settings.{Settings}
-use Rattle.scan_model.specs.declared.command.Job.{Job}
 use Rattle.tickets.specs.declared.tickets.Tickets.{Tickets}
 use Rattle.tickets.specs.declared.tickets.TicketSeat.{TicketSeat}
 use Rattle.tickets.specs.Seats.{drawn_by, IsSeatOf}
 use Rattle.cache_desk.specs.declared.desk.Desk.{Desk}
 use Rattle.cache_desk.specs.declared.entry.Entry.{Entry}
 use Rattle.shared_cache.specs.declared.cache.Cache.{Cache}
-use Rattle.shared_cache.specs.declared.cache.Passes.{Passes}
 use Rattle.worker.specs.declared.hand.Hand.{Hand}
 use Rattle.worker.specs.declared.share.Share.{Share}
 use Rattle.worker.specs.Shares.{ends_in, room_of}
 use Rattle.workers.specs.declared.crew.Crew.{Crew}
-use Rattle.workers.specs.Hands.{ArePartsOf, IsReady, IsDone, AreUnused, AreReady, AreDone}
+use Rattle.workers.specs.Hands.{ArePartsOf, IsReady, AreUnused, AreReady}
 use Rattle.workers.proofs.EndLemmas.{All-unmap, All-both}
 
 module _ {X : Type 0} (P : X → Type 0) where
@@ -42,11 +39,3 @@ module _ {S O G : Type 0} {g : logged.Ghosts (Desk S O G) Entry} {s : source.Gho
       (All-weaker (λ (h : H). SeatIs h.seat × (AreUnused cache tickets h.passes × ShareIs h.share)) (IsReady cache tickets jobs)
       (λ h (seat, (own, share)). record { own = own.0; seat = seat.0; drawn = seat.1; unclaimed = own.1; share = share.0; room = share.1 })
       (reverse hands) (All-both (λ (h : H). SeatIs h.seat) (λ (h : H). AreUnused cache tickets h.passes × ShareIs h.share) (reverse hands) seats (All-both (λ (h : H). AreUnused cache tickets h.passes) (λ (h : H). ShareIs h.share) (reverse hands) passes shares)))
-
-  -- the parts of hands whose work is done
-  pub all_done : (settings : Settings) (jobs : List Job) (hands : List (Hand S O G Entry g)) (seats : List TicketSeat) (passes : List (Passes S O G Entry g)) (shares : List Share) → All (IsDone cache tickets settings jobs) hands → ArePartsOf (reverse hands) seats passes shares → AreDone cache tickets settings jobs seats passes shares
-  all_done settings jobs hands seats passes shares done parts = (reverse hands, parts, All-reverse (IsDone cache tickets settings jobs) hands done)
-
--- there are as many hands as seats
-pub count_of : {X Y : Type 0} (f : X → Y) (xs : List X) (ys : List Y) → map f (reverse xs) ≡ ys → length ys ≡ length xs
-count_of f xs ys e = ap length (sym e) ∙ (length-map (reverse xs) f ∙ length-reverse xs)

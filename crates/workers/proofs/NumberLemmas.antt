@@ -1,19 +1,13 @@
 -- Each job's number was drawn by a worker whose share has its end.
-use Rattle.std.proofs.Common.{◌≡◌, ◌≢◌, ◌⊎◌, inl, inr, ◌<◌, ◌≤◌, ◌+◌, ℕ, zero, suc, nat_eq, List, [], ◌∷◌, ◌++◌, map, length, All, Contains, refl, sym, ap, ◌∙◌, subst, ⊎_elim, eq-eqb, ne_eqb, arith}
+use Rattle.std.proofs.Common.{◌≡◌, ◌≢◌, ◌⊎◌, inl, inr, ◌<◌, ◌≤◌, ◌+◌, ℕ, zero, suc, List, [], ◌∷◌, ◌++◌, map, length, All, Contains, refl, sym, ap, ◌∙◌, subst, ⊎_elim, arith}
 use Rattle.std.specs.List.{flat_map}
 use Rattle.std.proofs.lemmas.List.{map-append}
 use Rattle.std.proofs.lemmas.List.Elements.{All-head, All-tail}
 use mathlib.Core.Logic.{dite}
 use native.Mathlib.Decide.{ℕ_discrete}
-use Rattle.tickets.specs.Tickets.{total, one_if, times}
-use Rattle.tickets.proofs.TicketLemmas.{append_times}
+use Rattle.tickets.specs.Tickets.{total, times}
+use Rattle.tickets.proofs.TicketLemmas.{append_times, hit, miss}
 use Rattle.workers.proofs.PlaceLemmas.{here, later}
-
-hit : (x y : ℕ) → x ≡ y → one_if (nat_eq x y) ≡ 1
-hit x y e = ap one_if (eq-eqb x y e)
-
-miss : (x y : ℕ) → x ≢ y → one_if (nat_eq x y) ≡ 0
-miss x y n = ap one_if (ne_eqb x y n)
 
 -- a number that is counted stands in the list
 counted : (x : ℕ) (xs : List ℕ) → 1 ≤ times x xs → Contains xs x

@@ -1,10 +1,10 @@
 -- Ends that are put at the places of their numbers.
-use Rattle.std.proofs.Common.{◌≡◌, ◌≢◌, ◌<◌, ℕ, zero, suc, List, [], ◌∷◌, ◌++◌, length, All, Contains, get_or, Option, Some, None, append_assoc, refl, sym, ap, ◌∙◌, subst, arith}
+use Rattle.std.proofs.Common.{◌≡◌, ◌≢◌, ◌<◌, ℕ, suc, List, [], ◌∷◌, ◌++◌, length, Contains, get_or, Option, Some, None, append_assoc, refl, sym, ap, ◌∙◌, subst, arith}
 use Rattle.std.specs.Prelude.{IsSome}
 use Rattle.std.specs.List.{flat_map}
 use Rattle.std.proofs.Math.ListN.{set}
-use Rattle.std.proofs.lemmas.List.{append-nil, get_or-set_same, get_or-set_other}
-use Rattle.std.proofs.lemmas.List.Elements.{All-nil, All-cons, All-head, All-tail, All-weaker}
+use Rattle.std.proofs.lemmas.List.{append-nil, get_or-set_other, nil_from_length}
+use Rattle.std.proofs.lemmas.List.Elements.{All-cons, All-weaker}
 use Rattle.std.proofs.lemmas.Grind.{flat_map-append, get_or-set_at}
 use mathlib.Core.Logic.{dite}
 use native.Mathlib.Decide.{ℕ_discrete}
@@ -19,18 +19,6 @@ module _ {A : Type 0} where
   later x y xs (k, inside, at) = (suc k, omega arith, at)
 
 -- ## One end
-
-no_end : (places : List (Option UnitEnd)) → All (λ place. place ≡ None) places → (k : ℕ) (end : UnitEnd) → get_or places k None ≡ Some end → ⊥
-no_end [] none k end at = cc
-no_end (place ∷ places) none zero end at = let first : place ≡ None = All-head (λ p. p ≡ None) place places none in cc
-no_end (place ∷ places) none (suc k) end at = no_end places (All-tail (λ p. p ≡ None) place places none) k end at
-
--- there are no ends yet
-pub ArePlaced-none : (places : List (Option UnitEnd)) → All (λ place. place ≡ None) places → ArePlaced [] places
-ArePlaced-none places none = record {
-  filled = All-nil _;
-  own = λ k end at. absurd (no_end places none k end at);
-}
 
 -- one end more is put at its place
 pub ArePlaced-more : (places : List (Option UnitEnd)) (ends : List (ℕ × UnitEnd)) (number : ℕ) (end : UnitEnd) → number < length places → ArePlaced ends places → ArePlaced ((number, end) ∷ ends) (set places number (Some end))
@@ -60,9 +48,6 @@ ArePlaced-more places ends number end inside placed =
 abbrev pub Goes : (old places : List (Option UnitEnd)) (all left : List (ℕ × UnitEnd)) → Type 0
 Goes old places all left = (before : List (ℕ × UnitEnd)) → ArePlaced before old → (now : List (ℕ × UnitEnd)) × ArePlaced now places × (left ++ now ≡ all ++ before)
 
-pub Goes-begin : (old : List (Option UnitEnd)) (all : List (ℕ × UnitEnd)) → Goes old old all all
-Goes-begin old all before placed = (before, placed, refl)
-
 pub Goes-one : (old places : List (Option UnitEnd)) (all left rest : List (ℕ × UnitEnd)) (number : ℕ) (end : UnitEnd) → left ≡ rest ++ (number, end) ∷ [] → number < length places → Goes old places all left → Goes old (set places number (Some end)) all rest
 Goes-one old places all left rest number end cut inside goes before placed =
     let g = goes before placed in (
@@ -71,14 +56,10 @@ Goes-one old places all left rest number end cut inside goes before placed =
       sym (append_assoc rest ((number, end) ∷ []) g.0) ∙ (ap (λ z. z ++ g.0) (sym cut) ∙ g.2),
     )
 
-empty : {A : Type 0} (xs : List A) → length xs ≡ 0 → xs ≡ []
-empty [] e = refl
-empty (x ∷ xs) e = absurd (omega arith)
-
 pub Goes-over : (old places : List (Option UnitEnd)) (all left : List (ℕ × UnitEnd)) → length left ≡ 0 → Goes old places all left → (before : List (ℕ × UnitEnd)) → ArePlaced before old → ArePlaced (all ++ before) places
 Goes-over old places all left none goes before placed =
     let g = goes before placed in
-    subst (λ z. ArePlaced z places) (sym (ap (λ z. z ++ g.0) (empty left none)) ∙ g.2) g.1
+    subst (λ z. ArePlaced z places) (sym (ap (λ z. z ++ g.0) (nil_from_length left none)) ∙ g.2) g.1
 
 -- ## The shares, from the last to the first
 
@@ -86,9 +67,6 @@ module _ {H : Type 0} (f : H → List (ℕ × UnitEnd)) where
   -- all of them are placed, but for the shares that are left
   abbrev pub Stands : (places : List (Option UnitEnd)) (all left : List H) → Type 0
   Stands places all left = (now : List (ℕ × UnitEnd)) × ArePlaced now places × (flat_map f left ++ now ≡ flat_map f all)
-
-  pub Stands-begin : (places : List (Option UnitEnd)) (all : List H) → All (λ place. place ≡ None) places → Stands places all all
-  Stands-begin places all none = ([], ArePlaced-none places none, append-nil (flat_map f all))
 
   pub Stands-one : (old places : List (Option UnitEnd)) (all left rest : List H) (share : H) (ends : List (ℕ × UnitEnd)) → left ≡ rest ++ share ∷ [] → ends ≡ f share → ((before : List (ℕ × UnitEnd)) → ArePlaced before old → ArePlaced (ends ++ before) places) → Stands old all left → Stands places all rest
   Stands-one old places all left rest share ends cut is placing (now, placed, whole) =
@@ -100,4 +78,4 @@ module _ {H : Type 0} (f : H → List (ℕ × UnitEnd)) where
       )
 
   pub Stands-over : (places : List (Option UnitEnd)) (all left : List H) → length left ≡ 0 → Stands places all left → ArePlaced (flat_map f all) places
-  Stands-over places all left none (now, placed, whole) = subst (λ z. ArePlaced z places) (sym (ap (λ z. flat_map f z ++ now) (empty left none)) ∙ whole) placed
+  Stands-over places all left none (now, placed, whole) = subst (λ z. ArePlaced z places) (sym (ap (λ z. flat_map f z ++ now) (nil_from_length left none)) ∙ whole) placed

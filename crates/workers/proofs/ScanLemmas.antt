@@ -1,10 +1,10 @@
 -- What a scan has before the work and after it.
-use Rattle.std.proofs.Common.{◌≡◌, ◌<◌, ◌≤◌, ℕ, zero, suc, List, [], ◌∷◌, ◌++◌, map, length, All, Contains, get_or, Option, Some, None, refl, sym, ap, ◌∙◌, subst, arith}
+use Rattle.std.proofs.Common.{◌≡◌, ◌<◌, ◌≤◌, ℕ, suc, List, [], ◌∷◌, ◌++◌, map, length, All, Contains, get_or, Option, Some, sym, ap, ◌∙◌, subst, arith}
 use Rattle.std.specs.Prelude.{IsSome, Vec, vec_capacity}
 use Rattle.std.specs.List.{flat_map, Any}
 use Rattle.std.specs.declared.alloc.Global.{Global}
 use Rattle.std.proofs.lemmas.List.{length-map}
-use Rattle.std.proofs.lemmas.List.Elements.{All-nil, All-head, All-tail, All-weaker, All-map, All-append}
+use Rattle.std.proofs.lemmas.List.Elements.{All-nil, All-weaker, All-map, All-append}
 use Rattle.std.proofs.lemmas.List.Folds.{flat_map-map}
 use Rattle.std.proofs.lemmas.Option.{slice_get-get_or}
 use Rattle.file_source.specs.declared.source.Source as source
@@ -18,7 +18,6 @@ use Rattle.tickets.specs.declared.tickets.Tickets.{Tickets}
 use Rattle.tickets.specs.declared.tickets.TicketSeat.{TicketSeat}
 use Rattle.tickets.specs.Tickets.{total, times}
 use Rattle.tickets.specs.Seats.{drawn_by, IsSeatOf}
-use Rattle.shard_cache.specs.declared.kept_row.KeptRow.{KeptRow}
 use Rattle.shard_cache.specs.Rows.{ShardView, shard_number, all_rows, all_asked, paths_of}
 use Rattle.shard_cache.specs.StoreMap.{file_map, IsOneMap, HaveRows}
 use Rattle.shard_cache.specs.Ends.{AreEnds, IsLookedAt}
@@ -30,13 +29,14 @@ use Rattle.shared_cache.specs.Shared.{ArePasses, HasRowsOf}
 use Rattle.shared_cache.specs.Opening.{AreDealt}
 use Rattle.shared_cache.specs.Closed.{IsClaimed, AreClaimed}
 use Rattle.shared_cache.specs.Callers.{number_of, seen_by, IsHandOf}
+use Rattle.shared_cache.proofs.NewLemmas.{nothing_at}
 use Rattle.worker.specs.declared.hand.Hand.{Hand}
 use Rattle.worker.specs.declared.share.Share.{Share}
 use Rattle.worker.specs.Claims.{HasClaimed}
 use Rattle.worker.specs.Shares.{ends_in, room_of}
 use Rattle.workers.specs.declared.crew.Crew.{Crew}
 use Rattle.workers.specs.declared.rooms.Rooms.{Rooms}
-use Rattle.workers.specs.Hands.{ArePartsOf, IsDone, AreUnused, AreReady, AreDone}
+use Rattle.workers.specs.Hands.{IsDone, AreUnused, AreReady, AreDone}
 use Rattle.workers.specs.Places.{AreBelow, ArePlaced}
 use Rattle.workers.specs.Rooms.{AreRooms}
 use Rattle.workers.proofs.NumberLemmas.{total_map}
@@ -44,12 +44,6 @@ use Rattle.workers.proofs.RowLemmas.{file_map-row, HaveRows-all}
 use Rattle.workers.proofs.EndLemmas.{All-unmap, Any-unmap, Worked, below_of, full_of, ends_of, claimed_of}
 
 -- ## Before the work
-
--- where nothing was seen of any shard, nothing was seen of this one
-nothing_at : {E : Type 0} (logs : List (List E)) (k : ℕ) → All (λ log. log ≡ []) logs → get_or logs k [] ≡ []
-nothing_at [] k h = refl
-nothing_at (log ∷ logs) zero h = All-head (λ l. l ≡ []) log logs h
-nothing_at (log ∷ logs) (suc k) h = nothing_at logs k (All-tail (λ l. l ≡ []) log logs h)
 
 not_in_nothing : {X : Type 0} (xs : List X) (x : X) → xs ≡ [] → Contains xs x → ⊥
 not_in_nothing [] x e (k, inside, at) = absurd (omega arith)
